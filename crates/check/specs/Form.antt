@@ -11,6 +11,7 @@ use Rattle.std.specs.declared.result.Result.{Result}
 use Rattle.std.specs.declared.result.Result.the-variants.{Ok, Err}
 use Rattle.check.specs.declared.node.Node.{Node}
 use Rattle.check.specs.declared.refusal.Refusal.{Refusal}
+use Rattle.check.specs.declared.refusal.Question.{Question}
 use Rattle.check.specs.declared.refusal.Question.the-variants.{TableSize, NodeForm, LinkedOnce, Depth}
 use Rattle.check.specs.declared.shape.Class.{Class}
 use Rattle.check.specs.declared.shape.Class.the-variants.{Declaration, Block, Statement, Expression}
@@ -96,10 +97,14 @@ rootFits n d = not (eqb n 1) || (eqb (d .kind) 1 && eqb (d .next) 0)
 abbrev pub nodeFits : List Node → ℕ → Node → Bool
 nodeFits t n d = linksFit (length t) n d && (rootFits n d && shapeFits t d (shapeOf (d .kind)))
 
--- the first node, from the n-th on, that does not have the form of its kind
-abbrev pub placed : List Node → ℕ → List Node → Result (Unit {0}) Refusal
-placed t n [] = Ok tt
-placed t n (d ∷ ds) = cond (nodeFits t n d) (placed t (n + 1) ds) (refuse NodeForm n (d .line))
+-- the first node, from the n-th on, that fails a test
+abbrev pub askFrom : (ℕ → Node → Bool) → Question → ℕ → List Node → Result (Unit {0}) Refusal
+askFrom test q n [] = Ok tt
+askFrom test q n (d ∷ ds) = cond (test n d) (askFrom test q (n + 1) ds) (refuse q n (d .line))
+
+-- a question asked of each node in number order
+abbrev pub askEach : (ℕ → Node → Bool) → Question → List Node → Result (Unit {0}) Refusal
+askEach test q t = askFrom test q 1 t
 
 -- 1 where a link leads to node n
 abbrev pub hit : ℕ → ℕ → ℕ
@@ -110,11 +115,9 @@ abbrev pub timesLinked : List Node → ℕ → ℕ
 timesLinked [] n = 0
 timesLinked (d ∷ ds) n = hit n (d .a) + hit n (d .b) + hit n (d .c) + hit n (d .next) + timesLinked ds n
 
--- the first node, from the n-th on, that is not linked exactly once; node 1 is not asked
-abbrev pub joined : List Node → ℕ → List Node → Result (Unit {0}) Refusal
-joined t n [] = Ok tt
-joined t n (d ∷ ds) =
-    cond (eqb n 1 || eqb (timesLinked t n) 1) (joined t (n + 1) ds) (refuse LinkedOnce n (d .line))
+-- every node but the first is linked exactly once
+abbrev pub linkedOnce : List Node → ℕ → Node → Bool
+linkedOnce t n d = eqb n 1 || eqb (timesLinked t n) 1
 
 -- the lower of two node numbers, where 0 is none
 abbrev pub lower : ℕ → ℕ → ℕ
@@ -138,5 +141,6 @@ sized len places = leb 1 len && (leb len 4096 && leb len places)
 abbrev pub formed : List Node → ℕ → Result (Unit {0}) Refusal
 formed t places =
     cond (sized (length t) places)
-    (then (placed t 1 t) (λ _. then (joined t 1 t) (λ _. shallow t (lowestDeep 1 (tree t 1)))))
+    (then (askEach (nodeFits t) NodeForm t)
+     (λ _. then (askEach (linkedOnce t) LinkedOnce t) (λ _. shallow t (lowestDeep 1 (tree t 1)))))
     (refuse TableSize 0 0)

@@ -1,6 +1,7 @@
 // Checks a script: a table of nodes is accepted exactly when it has the form
 // of a script and VC's rules give it types.
 pub mod check;
+pub mod form;
 pub mod node;
 pub mod note;
 pub mod refusal;
