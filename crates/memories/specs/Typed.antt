@@ -3,7 +3,7 @@ use mathlib.Core.Path.{_≡_, sym, _∙_}
 use mathlib.Core.Logic.{inl, inr}
 use mathlib.Core.Bool.{true, false}
 use mathlib.Core.List.{List, [], _∷_}
-use Prim.Native.Nat.{ℕ, zero, suc, _+_}
+use Prim.Native.Nat.{ℕ, zero, suc, _+_, _*_}
 use native.Mathlib.Omega.{arith}
 use lib.ListN.{getD, drop}
 use Rattle.std.proofs.shelf.Lists.{getD-drop}
@@ -12,6 +12,7 @@ use Rattle.std.specs.declared.option.Option.{Option}
 use Rattle.std.specs.declared.option.Option.the-variants.{Some, None}
 use Rattle.memories.specs.declared.value.Value.{Value}
 use Rattle.memories.specs.Cells.{typed, AllTyped, recordCell, recordCells}
+use Rattle.memories.specs.Layout.{byteCells}
 
 pub typed-cell : (v : Value) → typed (v .ty) ≡ true → recordCell v ≡ Some v
 typed-cell v h = rw h
@@ -34,6 +35,17 @@ pub records-typed : (vs : List Value) → AllTyped (recordCells vs)
 records-typed [] i w e = nothing-typed i w e
 records-typed (v ∷ vs) zero w e = seen-typed v w e
 records-typed (v ∷ vs) (suc i) w e = records-typed vs i w e
+
+pub bytes-typed : (bytes : List ℕ) → AllTyped (byteCells bytes)
+unfolding byteCells
+bytes-typed [] i w e = nothing-typed i w e
+bytes-typed (t ∷ []) i w e = nothing-typed i w e
+bytes-typed (t ∷ a ∷ []) i w e = nothing-typed i w e
+bytes-typed (t ∷ a ∷ b ∷ []) i w e = nothing-typed i w e
+bytes-typed (t ∷ a ∷ b ∷ c ∷ []) i w e = nothing-typed i w e
+bytes-typed (t ∷ a ∷ b ∷ c ∷ d ∷ rest) zero w e =
+    seen-typed (record { ty = t; word = a * 16777216 + b * 65536 + c * 256 + d }) w e
+bytes-typed (t ∷ a ∷ b ∷ c ∷ d ∷ rest) (suc i) w e = bytes-typed rest i w e
 
 pub window-typed : (shift : ℕ) (cells : List (Option Value)) → AllTyped cells → AllTyped (drop shift cells)
 window-typed shift cells all i v e = all (shift + i) v (sym (getD-drop shift cells i None) ∙ e)
