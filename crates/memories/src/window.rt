@@ -16,7 +16,8 @@ pub struct Window<M: Memory> {
 
 impl<M: Memory> Window<M> {
     pub fn new(memory: M, shift: usize) -> Window<M>
-        ensures { λ r. ⌜ r ≡ record { memory = memory; shift = shift } ⌝ }
+        ensures below { λ r. ⌜ r .memory ≡ memory ⌝ }
+        ensures from { λ r. ⌜ r .shift ≡ shift ⌝ }
     {
         Window { memory, shift }
     }
