@@ -1,18 +1,16 @@
 -- What holds of any list of cells, whatever place stands below it.
-use mathlib.Core.Path.{_≡_, refl, sym, _∙_}
-use mathlib.Core.Logic.{inl, inr}
-use mathlib.Core.Bool.{Bool, true, false, cond, _&&_}
-use mathlib.Core.List.{List, [], _∷_}
-use Prim.Native.Nat.{ℕ, zero, suc, _<_, _≤_}
+use mathlib.Core.Path.{_≡_, sym}
+use mathlib.Core.Bool.{true, false}
+use mathlib.Core.List.{List}
+use Prim.Native.Nat.{ℕ, _<_, _≤_}
 use native.Mathlib.Omega.{arith}
-use lib.ListN.{length, getD, set}
-use lib.Dec.{leb, ltb}
-use Rattle.std.proofs.shelf.Lists.{length-map, getD-map, getD-past, map-set}
-use Rattle.std.proofs.shelf.Tests.{lt-ltb, le-ltb, le-leb, lt-leb, and-left, and-right, cases-bool}
+use lib.ListN.{length, getD}
+use Rattle.std.proofs.shelf.Lists.{getD-past}
+use Rattle.std.proofs.shelf.Tests.{lt-ltb, le-ltb, and-right}
 use Rattle.std.specs.declared.option.Option.{Option}
-use Rattle.std.specs.declared.option.Option.the-variants.{Some, None}
+use Rattle.std.specs.declared.option.Option.the-variants.{None}
 use Rattle.memories.specs.declared.value.Value.{Value}
-use Rattle.memories.specs.Cells.{typed, inside, writable, AllTyped, recordCell, recordCells}
+use Rattle.memories.specs.Cells.{typed, inside, writable}
 
 pub inside-yes : (cells : List (Option Value)) (i n : ℕ) → length cells ≡ n → i < n → true ≡ inside cells i
 inside-yes cells i n e h = sym (lt-ltb i (length cells) (omega arith))
@@ -31,4 +29,3 @@ writable-untyped cells i t h = sym (and-right (inside cells i) (typed t) h)
 
 pub read-past : (cells : List (Option Value)) (i n : ℕ) → length cells ≡ n → n ≤ i → None ≡ getD cells i None
 read-past cells i n e h = sym (getD-past cells i None (omega arith))
-

@@ -1,5 +1,5 @@
 -- Bytes read and written five at a time, seen as cells.
-use mathlib.Core.Path.{_≡_, refl, sym, ap, _∙_}
+use mathlib.Core.Path.{_≡_, refl, ap, _∙_}
 use mathlib.Core.List.{List, [], _∷_}
 use Prim.Native.Nat.{ℕ, zero, suc, _+_, _*_, _/_, _%_, _^_, _<_}
 use native.Mathlib.Nat.{div-div-eq-div-mul, mod-eq-of-lt}
@@ -7,7 +7,7 @@ use Rattle.std.proofs.shelf.Bits.{div-add-mod', div-below}
 use native.Mathlib.Omega.{arith}
 use lib.ListN.{length, getD, set}
 use Rattle.std.specs.declared.option.Option.{Option}
-use Rattle.std.specs.declared.option.Option.the-variants.{Some, None}
+use Rattle.std.specs.declared.option.Option.the-variants.{None}
 use Rattle.memories.specs.declared.value.Value.{Value}
 use Rattle.memories.specs.Cells.{recordCell}
 use Rattle.memories.specs.Layout.{byteCell, byteCells, putCell}
@@ -30,8 +30,8 @@ set-five t a b c d rest n m x e = let k : n ≡ suc (suc (suc (suc (suc m)))) = 
 
 -- the cell at i is what its five bytes mean
 pub read-bytes : (bytes : List ℕ) (i : ℕ)
-  → i < length bytes / 5
-  → getD (byteCells bytes) i None
+    → i < length bytes / 5
+    → getD (byteCells bytes) i None
     ≡ byteCell (getD bytes (5 * i) 0) (getD bytes (5 * i + 1) 0) (getD bytes (5 * i + 2) 0) (getD bytes (5 * i + 3) 0) (getD bytes (5 * i + 4) 0)
 unfolding byteCells
 read-bytes [] i h = absurd (omega arith)
@@ -47,7 +47,7 @@ read-bytes (t ∷ a ∷ b ∷ c ∷ d ∷ rest) (suc i) h =
       getD-five t a b c d rest (5 * suc i + 1) (5 * i + 1) (omega arith),
       getD-five t a b c d rest (5 * suc i + 2) (5 * i + 2) (omega arith),
       getD-five t a b c d rest (5 * suc i + 3) (5 * i + 3) (omega arith),
-      getD-five t a b c d rest (5 * suc i + 4) (5 * i + 4) (omega arith)
+      getD-five t a b c d rest (5 * suc i + 4) (5 * i + 4) (omega arith),
     )
     (read-bytes rest i k)
 
@@ -72,14 +72,14 @@ put-five t a b c d rest i v =
       set-five t a b c d _ (5 * suc i + 1) (5 * i + 1) _ (omega arith),
       set-five t a b c d _ (5 * suc i + 2) (5 * i + 2) _ (omega arith),
       set-five t a b c d _ (5 * suc i + 3) (5 * i + 3) _ (omega arith),
-      set-five t a b c d _ (5 * suc i + 4) (5 * i + 4) _ (omega arith)
+      set-five t a b c d _ (5 * suc i + 4) (5 * i + 4) _ (omega arith),
     )
 
 -- what was put is seen in its cell, and every other cell is as it was
 pub put-bytes : (bytes : List ℕ) (i : ℕ) (v : Value)
-  → i < length bytes / 5
-  → v .word < 2 ^ 32
-  → byteCells (putCell bytes i v) ≡ set (byteCells bytes) i (recordCell v)
+    → i < length bytes / 5
+    → v .word < 2 ^ 32
+    → byteCells (putCell bytes i v) ≡ set (byteCells bytes) i (recordCell v)
 unfolding byteCells
 put-bytes [] i v h l = absurd (omega arith)
 put-bytes (t ∷ []) i v h l = absurd (omega arith)

@@ -5,10 +5,9 @@ use mathlib.Core.Bool.{Bool, true, false, cond, _&&_}
 use mathlib.Core.List.{List}
 use Prim.Native.Nat.{ℕ, _+_, _-_, _<_, _≤_}
 use native.Mathlib.Omega.{arith}
-use lib.ListN.{length, getD, set, take, drop}
-use lib.Dec.{ltb}
+use lib.ListN.{length, set, take, drop}
 use Rattle.std.proofs.shelf.Lists.{length-drop, drop-set-add, take-set-le}
-use Rattle.std.proofs.shelf.Tests.{lt-ltb, le-ltb, cases-lt}
+use Rattle.std.proofs.shelf.Tests.{cases-lt}
 use Rattle.std.specs.declared.option.Option.{Option}
 use Rattle.memories.specs.declared.value.Value.{Value}
 use Rattle.memories.specs.Cells.{inside, writable, typed}
@@ -30,15 +29,15 @@ writable-drop d i t cells = ap (λ (b : Bool). b && typed t) (inside-drop d i ce
 
 -- what a write or a clear below does to the cells that the window has
 pub drop-changed : (d i : ℕ) (x : Option Value) (cells cells′ : List (Option Value)) (r : Bool)
-  → cells′ ≡ cond r (set cells (d + i) x) cells
-  → drop d cells′ ≡ cond r (set (drop d cells) i x) (drop d cells)
+    → cells′ ≡ cond r (set cells (d + i) x) cells
+    → drop d cells′ ≡ cond r (set (drop d cells) i x) (drop d cells)
 drop-changed d i x cells cells′ true e = ap (drop d) e ∙ drop-set-add d cells i x
 drop-changed d i x cells cells′ false e = ap (drop d) e
 
 -- and to those before it: nothing
 pub take-changed : (d i : ℕ) (x : Option Value) (cells cells′ : List (Option Value)) (r : Bool)
-  → cells′ ≡ cond r (set cells (d + i) x) cells
-  → take d cells′ ≡ take d cells
+    → cells′ ≡ cond r (set cells (d + i) x) cells
+    → take d cells′ ≡ take d cells
 take-changed d i x cells cells′ true e =
     let h : d ≤ d + i = omega arith in ap (take d) e ∙ take-set-le d cells (d + i) x h
 take-changed d i x cells cells′ false e = ap (take d) e

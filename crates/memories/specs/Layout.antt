@@ -22,13 +22,8 @@ byteCells (t ∷ a ∷ b ∷ c ∷ d ∷ rest) = byteCell t a b c d ∷ byteCell
 -- the bytes once the five of cell i hold a type and a word
 abbrev pub putCell : List ℕ → ℕ → Value → List ℕ
 putCell bytes i v =
-    set
-    (set
-      (set
-        (set (set bytes (5 * i) (v .ty)) (5 * i + 1) (v .word / 16777216 % 256))
-        (5 * i + 2)
-        (v .word / 65536 % 256))
-      (5 * i + 3)
-      (v .word / 256 % 256))
-    (5 * i + 4)
-    (v .word % 256)
+    let ty = set bytes (5 * i) (v .ty) in
+    let first = set ty (5 * i + 1) (v .word / 16777216 % 256) in
+    let second = set first (5 * i + 2) (v .word / 65536 % 256) in
+    let third = set second (5 * i + 3) (v .word / 256 % 256) in
+    set third (5 * i + 4) (v .word % 256)

@@ -5,7 +5,7 @@ use mathlib.Core.Bool.{true, false}
 use mathlib.Core.List.{List, [], _∷_}
 use Prim.Native.Nat.{ℕ, zero, suc, _+_, _*_}
 use native.Mathlib.Omega.{arith}
-use lib.ListN.{getD, drop}
+use lib.ListN.{drop}
 use Rattle.std.proofs.shelf.Lists.{getD-drop}
 use Rattle.std.proofs.shelf.Tests.{cases-bool}
 use Rattle.std.specs.declared.option.Option.{Option}
@@ -14,9 +14,11 @@ use Rattle.memories.specs.declared.value.Value.{Value}
 use Rattle.memories.specs.Cells.{typed, AllTyped, recordCell, recordCells}
 use Rattle.memories.specs.Layout.{byteCells}
 
+-- a place with a type is a value
 pub typed-cell : (v : Value) → typed (v .ty) ≡ true → recordCell v ≡ Some v
 typed-cell v h = rw h
 
+-- a place with none is unset
 pub untyped-cell : (v : Value) → typed (v .ty) ≡ false → recordCell v ≡ None
 untyped-cell v h = rw h
 
@@ -28,14 +30,17 @@ seen-typed v w e =
       | inr f ↦ let s = untyped-cell v f in let z : _≡_ {A = ℕ} 0 1 = cc in absurd (omega arith)
     ]
 
+-- where there is no cell there is no value
 pub nothing-typed : AllTyped []
 nothing-typed i w e = let z : _≡_ {A = ℕ} 0 1 = cc in absurd (omega arith)
 
+-- in records
 pub records-typed : (vs : List Value) → AllTyped (recordCells vs)
 records-typed [] i w e = nothing-typed i w e
 records-typed (v ∷ vs) zero w e = seen-typed v w e
 records-typed (v ∷ vs) (suc i) w e = records-typed vs i w e
 
+-- in bytes
 pub bytes-typed : (bytes : List ℕ) → AllTyped (byteCells bytes)
 unfolding byteCells
 bytes-typed [] i w e = nothing-typed i w e
@@ -47,5 +52,6 @@ bytes-typed (t ∷ a ∷ b ∷ c ∷ d ∷ rest) zero w e =
     seen-typed (record { ty = t; word = a * 16777216 + b * 65536 + c * 256 + d }) w e
 bytes-typed (t ∷ a ∷ b ∷ c ∷ d ∷ rest) (suc i) w e = bytes-typed rest i w e
 
+-- in a window, where it is so below
 pub window-typed : (shift : ℕ) (cells : List (Option Value)) → AllTyped cells → AllTyped (drop shift cells)
 window-typed shift cells all i v e = all (shift + i) v (sym (getD-drop shift cells i None) ∙ e)

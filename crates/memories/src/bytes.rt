@@ -56,13 +56,14 @@ pub impl Memory for CellBytes<'_> as BytesMemory {
             return None;
         }
         let at = 5 * cell;
+        let ty = self.bytes[at];
         let word = u32::from_be_bytes([
             self.bytes[at + 1],
             self.bytes[at + 2],
             self.bytes[at + 3],
             self.bytes[at + 4],
         ]);
-        seen(Value { ty: self.bytes[at], word })
+        seen(Value { ty, word })
     }
 
     fn write(&mut self, cell: usize, value: Value) -> bool

@@ -1,7 +1,7 @@
 // A memory over lent records: a record for each cell, unset where its type is none.
 ghost use mathlib.Core.Path.{_≡_};
 ghost use mathlib.Core.Bool.{cond};
-ghost use lib.ListN.{length, getD, set};
+ghost use lib.ListN.{set};
 ghost use denote.Ref.{now as held, name};
 ghost use Rattle.std.specs.declared.option.Option.the-variants.{Some, None};
 ghost use Rattle.memories.specs.Cells.{writable, inside, recordCells, cleared};

@@ -22,6 +22,10 @@ fn int(word: u32) -> Value {
     Value { ty: 2, word }
 }
 
+fn array(word: u32) -> Value {
+    Value { ty: 6, word }
+}
+
 // What was written stands in the lent records once the memory is gone.
 fn lent() -> u32
     ensures { λ r. ⌜ r ≡ 9 ⌝ }
@@ -35,21 +39,20 @@ fn lent() -> u32
 }
 
 #[test]
-fn types_in_bytes() -> Result<(), Fail> {
-    let mut image = [2, 0, 0, 1, 44, 0, 9, 9, 9, 9, 7, 0, 0, 0, 1, 255, 1, 2, 3, 4, 6, 6, 6];
+fn unset_in_bytes() -> Result<(), Fail> {
+    let mut image = [0, 9, 9, 9, 9, 7, 0, 0, 0, 1, 255, 1, 2, 3, 4, 6, 6, 6];
     let memory = CellBytes::new(&mut image);
-    check_eq(memory.size(), 4)?;
-    check(holds(&memory, 0, 2, 300))?;
-    check(memory.read(1).is_none() && memory.read(2).is_none())?;
-    check(memory.read(3).is_none() && memory.read(4).is_none())
+    check_eq(memory.size(), 3)?;
+    check(memory.read(0).is_none() && memory.read(1).is_none())?;
+    check(memory.read(2).is_none() && memory.read(3).is_none())
 }
 
 #[test]
-fn writes_in_bytes() -> Result<(), Fail> {
-    let mut image = [5, 5, 5, 5, 5, 255, 0, 0, 0, 9, 8, 8, 8];
+fn set_in_bytes() -> Result<(), Fail> {
+    let mut image = [2, 0, 0, 1, 44, 255, 0, 0, 0, 9, 8, 8, 8];
     let mut memory = CellBytes::new(&mut image);
-    check(memory.write(1, Value { ty: 6, word: 0x01020304 }))?;
-    check(memory.clear(0))?;
+    check(holds(&memory, 0, 2, 300))?;
+    check(memory.write(1, array(0x01020304)) && memory.clear(0))?;
     check(!memory.clear(2) && !memory.write(2, int(1)))?;
     check(!memory.write(1, UNSET) && !memory.write(1, Value { ty: 7, word: 0 }))?;
     check(image == [0, 0, 0, 0, 0, 6, 1, 2, 3, 4, 8, 8, 8])
@@ -60,7 +63,7 @@ fn records_as_cells() -> Result<(), Fail> {
     let mut row = [int(1), Value { ty: 7, word: 1 }, UNSET];
     let mut memory = CellRecords::new(&mut row);
     check(holds(&memory, 0, 2, 1) && memory.read(1).is_none() && memory.read(2).is_none())?;
-    check(memory.write(2, Value { ty: 6, word: 5 }) && memory.clear(0))?;
+    check(memory.write(2, array(5)) && memory.clear(0))?;
     check(holds(&memory, 2, 6, 5) && memory.read(0).is_none())?;
     check(!memory.write(3, int(1)) && !memory.write(0, UNSET) && !memory.clear(3))?;
     check_eq(lent(), 9)

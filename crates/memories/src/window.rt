@@ -1,7 +1,7 @@
 // A memory seen from a shift on: its cell i is cell i + shift below.
 ghost use mathlib.Core.Path.{_≡_};
 ghost use mathlib.Core.Bool.{cond};
-ghost use lib.ListN.{length, getD, set, take, drop};
+ghost use lib.ListN.{set, take, drop};
 ghost use Rattle.std.specs.declared.option.Option.the-variants.{Some, None};
 ghost use Rattle.memories.specs.Cells.{writable, inside};
 ghost use Rattle.memories.specs.Typed.{window-typed};
