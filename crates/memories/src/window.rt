@@ -3,7 +3,7 @@ ghost use mathlib.Core.Path.{_≡_};
 ghost use mathlib.Core.Bool.{cond};
 ghost use lib.ListN.{set, take, drop};
 ghost use Rattle.std.specs.declared.option.Option.the-variants.{Some, None};
-ghost use Rattle.memories.specs.Cells.{writable, inside};
+ghost use Rattle.memories.specs.Cells.{writable, inside, shifted};
 ghost use Rattle.memories.specs.Typed.{window-typed};
 use crate::memory::Memory;
 use crate::value::Value;
@@ -20,6 +20,17 @@ impl<M: Memory> Window<M> {
         ensures from { λ r. ⌜ r .shift ≡ shift ⌝ }
     {
         Window { memory, shift }
+    }
+
+    // The cell below that a cell is; none outside, so that the sum fits.
+    fn below(&self, cell: usize) -> Option<usize>
+        ensures { λ r. ⌜ r ≡ shifted (now (self .entry) .shift) (M·Memory .cells (now (self .entry) .memory)) cell ⌝ }
+    {
+        if cell < self.memory.size().saturating_sub(self.shift) {
+            Some(self.shift + cell)
+        } else {
+            None
+        }
     }
 
     // The memory below.
@@ -41,10 +52,10 @@ pub impl<M: Memory> Memory for Window<M> as WindowMemory {
     }
 
     fn read(&self, cell: usize) -> Option<Value> {
-        if cell >= self.memory.size().saturating_sub(self.shift) {
-            return None;
+        match self.below(cell) {
+            Some(below) => self.memory.read(below),
+            None => None,
         }
-        self.memory.read(self.shift + cell)
     }
 
     fn write(&mut self, cell: usize, value: Value) -> bool
@@ -53,10 +64,10 @@ pub impl<M: Memory> Memory for Window<M> as WindowMemory {
         ensures kept { λ _. ⌜ take (now (self .entry) .shift) (M·Memory .cells (now (self .exit) .memory)) ≡ take (now (self .entry) .shift) (M·Memory .cells (now (self .entry) .memory)) ⌝ }
         ensures shift { λ _. ⌜ now (self .exit) .shift ≡ now (self .entry) .shift ⌝ }
     {
-        if cell >= self.memory.size().saturating_sub(self.shift) {
-            return false;
+        match self.below(cell) {
+            Some(below) => self.memory.write(below, value),
+            None => false,
         }
-        self.memory.write(self.shift + cell, value)
     }
 
     fn clear(&mut self, cell: usize) -> bool
@@ -65,9 +76,9 @@ pub impl<M: Memory> Memory for Window<M> as WindowMemory {
         ensures kept { λ _. ⌜ take (now (self .entry) .shift) (M·Memory .cells (now (self .exit) .memory)) ≡ take (now (self .entry) .shift) (M·Memory .cells (now (self .entry) .memory)) ⌝ }
         ensures shift { λ _. ⌜ now (self .exit) .shift ≡ now (self .entry) .shift ⌝ }
     {
-        if cell >= self.memory.size().saturating_sub(self.shift) {
-            return false;
+        match self.below(cell) {
+            Some(below) => self.memory.clear(below),
+            None => false,
         }
-        self.memory.clear(self.shift + cell)
     }
 }

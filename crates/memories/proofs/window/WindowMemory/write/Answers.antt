@@ -1,32 +1,27 @@
 use mathlib.Core.Path.{refl, _∙_}
-use native.Mathlib.Omega.{arith}
-use Prim.Native.Nat.{_-_, _≤_}
-use lib.ListN.{length, length-drop}
 use Rattle.std.specs.declared.option.Option.the-variants.{Some}
 use Rattle.memories.proofs.Cells.{writable-out}
-use Rattle.memories.proofs.Shifted.{writable-drop, drop-changed, take-changed}
+use Rattle.memories.proofs.Shifted.{moved, outside, writable-drop, drop-changed, take-changed}
 use Rattle.memories.proofs.window.WindowMemory.write.Needs as need
 
-pub add-self : need.add-self
-add-self g c = omega arith
-
-pub returns-then-cell-saturating-sub : need.returns-then-cell-saturating-sub
-returns-then-cell-saturating-sub g c =
+pub returns-in-None : need.returns-in-None
+returns-in-None g c =
     let cells = g .M·Memory .cells (c .args .self .now .memory) in
-    let h : length cells - c .args .self .now .shift ≤ c .args .cell = omega arith in
     record {
-      says = writable-out _ _ _ (c .args .value .ty) (length-drop (c .args .self .now .shift) cells) h;
+      says = writable-out _ _ _ (c .args .value .ty) refl (outside (c .args .self .now .shift) (c .args .cell) cells (c .in-None .ensures tt));
       after = refl;
       kept = refl;
       shift = refl;
     }
 
-pub returns : need.returns
-returns g c =
+pub returns-in-Some : need.returns-in-Some
+returns-in-Some g c =
+    let shift = c .args .self .now .shift in
     let cells = g .M·Memory .cells (c .args .self .now .memory) in
+    let m = moved shift (c .args .cell) (c .in-Some .below) cells (c .in-Some .ensures tt) in
     record {
-      says = c .write .ensures .says ∙ writable-drop (c .args .self .now .shift) (c .args .cell) (c .args .value .ty) cells;
-      after = drop-changed (c .args .self .now .shift) (c .args .cell) (Some (c .args .value)) cells _ _ (c .write .ensures .after);
-      kept = take-changed (c .args .self .now .shift) (c .args .cell) (Some (c .args .value)) cells _ _ (c .write .ensures .after);
+      says = c .write .ensures .says ∙ writable-drop shift (c .args .cell) (c .args .value .ty) _ cells m;
+      after = drop-changed shift (c .args .cell) _ (Some (c .args .value)) cells _ _ m (c .write .ensures .after);
+      kept = take-changed shift (c .args .cell) _ (Some (c .args .value)) cells _ _ m (c .write .ensures .after);
       shift = refl;
     }
