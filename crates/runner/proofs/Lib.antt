@@ -1,0 +1,5 @@
+mod Held
+mod Figures
+mod Appended
+mod Items
+pub mod Runs
