@@ -2,4 +2,5 @@ mod Held
 mod Figures
 mod Appended
 mod Items
+mod Settled
 pub mod Runs

@@ -1,8 +1,11 @@
 pub mod Newest
 pub mod Printed
 pub mod Written
+pub mod Given
 pub mod Shown
 pub mod Verdicts
 pub mod State
 pub mod Rules
 pub mod Run
+pub mod Books
+pub mod Calls

@@ -21,38 +21,41 @@ use Rattle.runner.specs.declared.verdict.Verdict.{Verdict}
 use Rattle.runner.specs.declared.verdict.Verdict.the-variants.{Running, Ended, Trapped}
 use Rattle.runner.specs.Newest.{room}
 use Rattle.runner.specs.Printed.{intText, lineOf, newline, outputFits}
-use Rattle.runner.specs.State.{Core}
+use Rattle.runner.specs.State.{Core, World}
 
 -- A core with one part changed.
 abbrev pub withFrames : List Frame → Core → Core
-withFrames fs s = record { frames = fs; next = s .next; verdict = s .verdict; output = s .output; taken = s .taken }
+withFrames fs s = record { frames = fs; next = s .next; verdict = s .verdict; world = s .world }
 
 abbrev pub withNext : ℕ → Core → Core
-withNext n s = record { frames = s .frames; next = n; verdict = s .verdict; output = s .output; taken = s .taken }
+withNext n s = record { frames = s .frames; next = n; verdict = s .verdict; world = s .world }
 
 abbrev pub withVerdict : Verdict → Core → Core
-withVerdict v s = record { frames = s .frames; next = s .next; verdict = v; output = s .output; taken = s .taken }
+withVerdict v s = record { frames = s .frames; next = s .next; verdict = v; world = s .world }
 
-abbrev pub withOutput : List ℕ → Core → Core
-withOutput o s = record { frames = s .frames; next = s .next; verdict = s .verdict; output = o; taken = s .taken }
+abbrev pub withWorld : World → Core → Core
+withWorld w s = record { frames = s .frames; next = s .next; verdict = s .verdict; world = w }
+
+abbrev pub printed : List ℕ → World → World
+printed text w = record { output = w .output ++ text; taken = w .taken }
 
 -- How a rule ends: the step is over, or the frame below is handed something.
 pub data Flow : Type 0 where
   stop : Core → Flow
-  again : Core → Signal → Flow
+  again : World → Signal → Flow
 
 abbrev pub signalOf : Flow → Option Signal
 signalOf (stop s) = None
-signalOf (again s g) = Some g
+signalOf (again w g) = Some g
 
-abbrev pub coreAfter : Flow → Core
-coreAfter (stop s) = s
-coreAfter (again s g) = s
+abbrev pub coreAfter : Core → Flow → Core
+coreAfter s (stop s′) = s′
+coreAfter s (again w g) = withWorld w s
 
 -- what a function that follows a rule answers, and the core that it leaves
-pub record Follows (f : Flow) (r : Option Signal) (v : Core) : Type 0 where
+pub record Follows (s : Core) (f : Flow) (r : Option Signal) (v : Core) : Type 0 where
   pub says : r ≡ signalOf f
-  pub after : v ≡ coreAfter f
+  pub after : v ≡ coreAfter s f
 
 -- a trap at a node
 abbrev pub traps : Trap → ℕ → Core → Flow
@@ -68,8 +71,8 @@ awaits f n s = stop (withNext n (withFrames (f ∷ s .frames) s))
 -- a text is printed whole, or not at all
 abbrev pub put : ℕ → List ℕ → Core → Flow
 put n text s =
-    cond (outputFits (s .output) text)
-    (again (withOutput (s .output ++ text) s) Done)
+    cond (outputFits (s .world .output) text)
+    (again (printed text (s .world)) Done)
     (traps OutputFull n s)
 
 -- a node or a note by its number, which counts from 1
@@ -96,13 +99,13 @@ integer word = record { ty = 2; word = word }
 
 -- a block begins with its first statement
 abbrev pub beginBlock : ℕ → Node → Core → Flow
-beginBlock n d s = cond (eqb (d .b) 0) (again s Done) (awaits (InBlock n (d .b)) (d .b) s)
+beginBlock n d s = cond (eqb (d .b) 0) (again (s .world) Done) (awaits (InBlock n (d .b)) (d .b) s)
 
 abbrev pub beginStatement : ℕ → Node → Core → Flow
-beginStatement n d s = cond (eqb (d .a) 0) (again s Done) (awaits (InStatement n) (d .a) s)
+beginStatement n d s = cond (eqb (d .a) 0) (again (s .world) Done) (awaits (InStatement n) (d .a) s)
 
 abbrev pub beginLiteral : Node → Core → Flow
-beginLiteral d s = again s (Gives (integer (d .value)))
+beginLiteral d s = again (s .world) (Gives (integer (d .value)))
 
 -- the built-ins: putInt is 2, putIntLn 3 and putLn 9
 abbrev pub beginPut : ℕ → Node → Core → Flow
@@ -138,13 +141,13 @@ abbrev pub inBlock : List Node → Signal → ℕ → ℕ → Core → Flow
 inBlock t g b n s =
     ifDone g
     (ifSome (itemAt t n)
-    (λ d. cond (eqb (d .next) 0) (again s Done) (awaits (InBlock b (d .next)) (d .next) s))
+    (λ d. cond (eqb (d .next) 0) (again (s .world) Done) (awaits (InBlock b (d .next)) (d .next) s))
     (noRule b s))
     (noRule b s)
 
 -- the value of an expression statement is dropped
 abbrev pub inStatement : Signal → Core → Flow
-inStatement g s = again s Done
+inStatement g s = again (s .world) Done
 
 -- what a built-in prints of its argument
 abbrev pub putValue : ℕ → ℕ → Value → Core → Flow

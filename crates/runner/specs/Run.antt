@@ -9,7 +9,7 @@ use Rattle.runner.specs.declared.frame.Signal.{Signal}
 use Rattle.runner.specs.declared.verdict.Verdict.{Verdict}
 use Rattle.runner.specs.declared.verdict.Verdict.the-variants.{Running, Ended, Trapped}
 use Rattle.runner.specs.State.{Core, Scene, State}
-use Rattle.runner.specs.Rules.{Flow, stop, again, withFrames, begins, resumes, bottom}
+use Rattle.runner.specs.Rules.{Flow, stop, again, withFrames, withWorld, begins, resumes, bottom}
 
 -- a scene with another core
 abbrev pub withCore : Core → Scene → Scene
@@ -21,12 +21,12 @@ settles t s g [] = withCore (bottom g (withFrames [] (s .core))) s
 settles t s g (f ∷ fs) =
     elim (resumes t g f (withFrames fs (s .core))) [
       | stop c ↦ withCore c s
-      | again c g′ ↦ settles t (withCore (withFrames fs c) s) g′ fs
+      | again w g′ ↦ settles t (withCore (withWorld w (withFrames fs (s .core))) s) g′ fs
     ]
 
 abbrev pub follow : List Node → Scene → Flow → Scene
 follow t s (stop c) = withCore c s
-follow t s (again c g) = settles t (withCore c s) g (c .frames)
+follow t s (again w g) = settles t (withCore (withWorld w (s .core)) s) g (s .core .frames)
 
 -- all that one node begins
 unfoldable pub played : List Node → List Note → Scene → Scene

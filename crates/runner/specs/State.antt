@@ -14,6 +14,12 @@ use Rattle.runner.specs.Written.{written}
 abbrev pub Cell : Type 0
 Cell = Option Value
 
+-- what a node that is finished may leave behind
+pub record World : Type 0 where
+  pub output : List ℕ
+  -- how many inputs are taken
+  pub taken : ℕ
+
 -- what a rule may change
 pub record Core : Type 0 where
   -- what is begun and unfinished, the newest first
@@ -21,9 +27,7 @@ pub record Core : Type 0 where
   -- the node to begin next
   pub next : ℕ
   pub verdict : Verdict
-  pub output : List ℕ
-  -- how many inputs are taken
-  pub taken : ℕ
+  pub world : World
 
 -- what all that follows a node may change
 pub record Scene : Type 0 where
@@ -43,8 +47,7 @@ coreOf m = record {
   frames = held (m .frames);
   next = m .next;
   verdict = m .verdict;
-  output = written (m .output);
-  taken = m .taken;
+  world = record { output = written (m .output); taken = m .taken };
 }
 
 abbrev pub scene : Machine → List Cell → Scene

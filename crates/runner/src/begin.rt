@@ -20,7 +20,7 @@ use crate::verdict::Verdict;
 
 // Begins the node `machine.next`; what it hands down at once, if it does.
 pub fn begin(machine: &mut Machine, table: &[Node], notes: &[Note]) -> Option<Signal>
-    ensures { λ r. ⌜ Follows (begins (now (table .entry)) (now (notes .entry)) (coreOf (now (machine .entry)))) r (coreOf (now (machine .exit))) ⌝ }
+    ensures { λ r. ⌜ Follows (coreOf (now (machine .entry))) (begins (now (table .entry)) (now (notes .entry)) (coreOf (now (machine .entry)))) r (coreOf (now (machine .exit))) ⌝ }
 {
     let number = machine.next;
     if !machine.frames.has_room() {
@@ -41,7 +41,7 @@ pub fn begin(machine: &mut Machine, table: &[Node], notes: &[Note]) -> Option<Si
 
 fn begin_node(machine: &mut Machine, number: u16, node: Node, note: Note) -> Option<Signal>
     requires { ⌜ room 1024 (held (now machine .frames)) ≡ true ⌝ }
-    ensures { λ r. ⌜ Follows (beginNode number node note (coreOf (now (machine .entry)))) r (coreOf (now (machine .exit))) ⌝ }
+    ensures { λ r. ⌜ Follows (coreOf (now (machine .entry))) (beginNode number node note (coreOf (now (machine .entry)))) r (coreOf (now (machine .exit))) ⌝ }
 {
     match node.kind {
         10 if node.b == 0 => Some(Signal::Done),
@@ -67,7 +67,7 @@ fn begin_node(machine: &mut Machine, number: u16, node: Node, note: Note) -> Opt
 // Begins a call of the built-in that the node names.
 fn begin_put(machine: &mut Machine, number: u16, node: Node) -> Option<Signal>
     requires { ⌜ room 1024 (held (now machine .frames)) ≡ true ⌝ }
-    ensures { λ r. ⌜ Follows (beginPut number node (coreOf (now (machine .entry)))) r (coreOf (now (machine .exit))) ⌝ }
+    ensures { λ r. ⌜ Follows (coreOf (now (machine .entry))) (beginPut number node (coreOf (now (machine .entry)))) r (coreOf (now (machine .exit))) ⌝ }
 {
     match node.value {
         9 if node.a == 0 => print(machine, number, print_newline()),

@@ -37,7 +37,7 @@ pub struct Course {
 
 // No rule fits at the node `place`.
 pub fn no_rule(machine: &mut Machine, place: u16) -> Option<Signal>
-    ensures { λ r. ⌜ Follows (noRule place (coreOf (now (machine .entry)))) r (coreOf (now (machine .exit))) ⌝ }
+    ensures { λ r. ⌜ Follows (coreOf (now (machine .entry))) (noRule place (coreOf (now (machine .entry)))) r (coreOf (now (machine .exit))) ⌝ }
 {
     machine.verdict = Verdict::Trapped {
         trap: Trap::NoRule,
@@ -49,7 +49,7 @@ pub fn no_rule(machine: &mut Machine, place: u16) -> Option<Signal>
 // Leaves `frame` waiting for the node `next`.
 pub fn wait(machine: &mut Machine, frame: Frame, next: u16) -> Option<Signal>
     requires { ⌜ room 1024 (held (now machine .frames)) ≡ true ⌝ }
-    ensures { λ r. ⌜ Follows (awaits frame next (coreOf (now (machine .entry)))) r (coreOf (now (machine .exit))) ⌝ }
+    ensures { λ r. ⌜ Follows (coreOf (now (machine .entry))) (awaits frame next (coreOf (now (machine .entry)))) r (coreOf (now (machine .exit))) ⌝ }
 {
     let _ = machine.frames.push(frame);
     machine.next = next;
@@ -59,7 +59,7 @@ pub fn wait(machine: &mut Machine, frame: Frame, next: u16) -> Option<Signal>
 // Prints `text` for the call at the node `place`.
 pub fn print(machine: &mut Machine, place: u16, text: Text) -> Option<Signal>
     requires { ⌜ text .start ≤ 16 ⌝ }
-    ensures { λ r. ⌜ Follows (put place (shown text) (coreOf (now (machine .entry)))) r (coreOf (now (machine .exit))) ⌝ }
+    ensures { λ r. ⌜ Follows (coreOf (now (machine .entry))) (put place (shown text) (coreOf (now (machine .entry)))) r (coreOf (now (machine .exit))) ⌝ }
 {
     if machine.output.append(text.as_bytes()) {
         return Some(Signal::Done);

@@ -18,7 +18,7 @@ use crate::table::item_at;
 // Hands `signal` to `frame`, which is taken off; what it hands down in turn, if it does.
 pub fn resume(machine: &mut Machine, table: &[Node], signal: Signal, frame: Frame) -> Option<Signal>
     requires { ⌜ room 1024 (held (now machine .frames)) ≡ true ⌝ }
-    ensures { λ r. ⌜ Follows (resumes (now (table .entry)) signal frame (coreOf (now (machine .entry)))) r (coreOf (now (machine .exit))) ⌝ }
+    ensures { λ r. ⌜ Follows (coreOf (now (machine .entry))) (resumes (now (table .entry)) signal frame (coreOf (now (machine .entry)))) r (coreOf (now (machine .exit))) ⌝ }
 {
     match frame {
         Frame::InBlock { block, statement } => in_block(machine, table, signal, block, statement),
@@ -35,7 +35,7 @@ fn in_block(
     statement: u16,
 ) -> Option<Signal>
     requires { ⌜ room 1024 (held (now machine .frames)) ≡ true ⌝ }
-    ensures { λ r. ⌜ Follows (inBlock (now (table .entry)) signal block statement (coreOf (now (machine .entry)))) r (coreOf (now (machine .exit))) ⌝ }
+    ensures { λ r. ⌜ Follows (coreOf (now (machine .entry))) (inBlock (now (table .entry)) signal block statement (coreOf (now (machine .entry)))) r (coreOf (now (machine .exit))) ⌝ }
 {
     let Signal::Done = signal else {
         return no_rule(machine, block);
@@ -54,7 +54,7 @@ fn in_block(
 }
 
 fn in_call(machine: &mut Machine, table: &[Node], signal: Signal, call: u16) -> Option<Signal>
-    ensures { λ r. ⌜ Follows (inCall (now (table .entry)) signal call (coreOf (now (machine .entry)))) r (coreOf (now (machine .exit))) ⌝ }
+    ensures { λ r. ⌜ Follows (coreOf (now (machine .entry))) (inCall (now (table .entry)) signal call (coreOf (now (machine .entry)))) r (coreOf (now (machine .exit))) ⌝ }
 {
     let Signal::Gives(value) = signal else {
         return no_rule(machine, call);
