@@ -1,0 +1,9 @@
+pub mod Questions
+pub mod Notes
+pub mod Tree
+pub mod Search
+pub mod Scope
+pub mod Form
+pub mod Typing
+pub mod Judge
+pub mod Check

@@ -23,6 +23,8 @@ pub enum Question {
     MainForm,
     // Is a called function not main?
     NotMain,
+    // Are at most 512 names on the shelf?
+    ShelfRoom,
 }
 
 #[derive(Clone, Copy)]
