@@ -4,7 +4,7 @@ use mathlib.Core.Bool.{Bool, true, false, cond, _&&_}
 use mathlib.Core.List.{List, [], _∷_}
 use Prim.Native.Nat.{ℕ, _+_}
 use lib.Dec.{eqb, leb}
-use lib.ListN.{take, drop, replicate}
+use lib.ListN.{length, take, drop, replicate}
 use Rattle.std.specs.declared.option.Option.the-variants.{None}
 use Rattle.std.specs.declared.result.Result.{Result}
 use Rattle.std.specs.declared.result.Result.the-variants.{Ok, Err}
@@ -12,14 +12,19 @@ use Rattle.std.specs.Results.{Cases}
 use Rattle.memories.specs.declared.Value.{Value}
 use Rattle.check.specs.declared.node.Node.{Node}
 use Rattle.check.specs.declared.note.Note.{Note}
+use Rattle.check.specs.declared.refusal.Refusal.{Refusal}
+use Rattle.check.specs.Notes.{cleared}
+use Rattle.check.specs.Check.{checked, notesLeft}
 use Rattle.runner.specs.declared.verdict.Verdict.the-variants.{Running}
 use Rattle.runner.specs.declared.session.Session.{Session}
-use Rattle.runner.specs.declared.advance.GrantRefusal.{GrantRefusal}
-use Rattle.runner.specs.declared.advance.GrantRefusal.the-variants.{NotOpen, GrantTooLarge, TooManySteps}
+use Rattle.runner.specs.declared.refusal.OpenRefusal.{OpenRefusal}
+use Rattle.runner.specs.declared.refusal.OpenRefusal.the-variants.{Check, CellLimit, Inputs}
+use Rattle.runner.specs.declared.refusal.GrantRefusal.{GrantRefusal}
+use Rattle.runner.specs.declared.refusal.GrantRefusal.the-variants.{NotOpen, GrantTooLarge, TooManySteps}
 use Rattle.runner.specs.State.{State, Cell, view}
 use Rattle.runner.specs.Run.{ran, stepsTaken}
 use Rattle.runner.specs.Books.{Books, booksOf}
-use Rattle.runner.specs.Given.{given}
+use Rattle.runner.specs.Given.{given, acceptable}
 
 -- a session with all the cells of its memory: the script has those below the limit
 abbrev pub seen : Session → List Cell → State
@@ -72,12 +77,50 @@ pub record Same (s : Session) (cells : List Cell) (s′ : Session) (cells′ : L
   pub session : s′ ≡ s
   pub memory : cells′ ≡ cells
 
--- Grants.
+-- Opens.
 
-abbrev pub grantNumber : GrantRefusal → ℕ
-grantNumber NotOpen = 40
-grantNumber GrantTooLarge = 41
-grantNumber TooManySteps = 42
+-- a session that stands at the start of its script
+pub record Set (o : Opening) (s : Session) : Type 0 where
+  pub shown : view (s .course) (replicate (o .limit) None) ≡ start o
+  pub opened : s .«open» ≡ true
+  pub limited : s .limit ≡ o .limit
+  pub inputs : given (s .inputs) ≡ o .inputs
+
+-- 1 to 65,535 cells, which the memory has
+abbrev pub limitFits : ℕ → ℕ → Bool
+limitFits limit size = leb 1 limit && (leb limit 65_535 && leb limit size)
+
+-- the questions after the check, for a memory of so many cells
+abbrev pub placed : Opening → ℕ → Result (Unit {0}) OpenRefusal
+placed o size = cond (limitFits (o .limit) size) (cond (acceptable (o .inputs)) (Ok tt) (Err Inputs)) (Err CellLimit)
+
+-- all questions in their order
+abbrev pub openAnswer : Opening → ℕ → Result (List Note) Refusal → Result (Unit {0}) OpenRefusal
+openAnswer o size (Ok after) = placed o size
+openAnswer o size (Err e) = Err (Check e)
+
+-- the notes afterwards: those of the check, taken back where a later question refuses
+abbrev pub openNotes : Opening → List Note → Result (Unit {0}) OpenRefusal → List Note
+openNotes o notes (Ok u) = notesLeft (o .script) notes (checked (o .script) notes)
+openNotes o notes (Err (Check e)) = notesLeft (o .script) notes (checked (o .script) notes)
+openNotes o notes (Err CellLimit) = cleared (length (o .script)) notes
+openNotes o notes (Err Inputs) = cleared (length (o .script)) notes
+
+-- an accepted open: the session stands at the start, and the cells beyond the limit are as they were
+pub record Begun (o : Opening) (cells : List Cell) (s′ : Session) (cells′ : List Cell) : Type 0 where
+  pub shown : seen s′ cells′ ≡ start o
+  pub opened : s′ .«open» ≡ true
+  pub limited : s′ .limit ≡ o .limit
+  pub inputs : given (s′ .inputs) ≡ o .inputs
+  pub beyond : drop (o .limit) cells′ ≡ drop (o .limit) cells
+
+pub record Opened (o : Opening) (notes notes′ : List Note) (s : Session) (cells : List Cell) (r : Result (Unit {0}) OpenRefusal) (s′ : Session) (cells′ : List Cell) : Type 0 where
+  pub answer : r ≡ openAnswer o (length cells) (checked (o .script) notes)
+  pub noted : notes′ ≡ openNotes o notes r
+  pub beyond : drop (length (o .script)) notes′ ≡ drop (length (o .script)) notes
+  pub after : Cases r (λ _. Begun o cells s′ cells′) (λ _. Same s cells s′ cells′)
+
+-- Grants.
 
 abbrev pub grantAnswer : List Node → List Note → Bool → ℕ → State → Result ℕ GrantRefusal
 grantAnswer t notes opened grant s =

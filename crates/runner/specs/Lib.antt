@@ -8,4 +8,5 @@ pub mod State
 pub mod Rules
 pub mod Run
 pub mod Books
+pub mod Refusals
 pub mod Calls

@@ -1,10 +1,11 @@
 // Grants of steps.
 ghost use mathlib.Core.Path.{_≡_};
 ghost use Rattle.std.specs.Results.{Cases};
-ghost use Rattle.runner.specs.Calls.{Advanced, grantNumber};
+ghost use Rattle.runner.specs.Calls.{Advanced};
 use check::node::Node;
 use check::note::Note;
 use memories::Memory;
+use crate::refusal::GrantRefusal;
 use crate::session::Session;
 use crate::step::walk;
 
@@ -12,29 +13,6 @@ use crate::step::walk;
 const GRANT: u32 = 1_000_000;
 // The most steps of a session, from one open to the next.
 const STEPS: u64 = 1_099_511_627_776;
-
-// The questions that a grant is asked. Each has a number that hosts know it by.
-#[derive(Clone, Copy)]
-pub enum GrantRefusal {
-    // Is the session open?
-    NotOpen,
-    // Is the grant at most 1,000,000 steps?
-    GrantTooLarge,
-    // Are the steps taken and the grant at most 1,099,511,627,776?
-    TooManySteps,
-}
-
-impl GrantRefusal {
-    pub fn number(self) -> u8
-        ensures { λ r. ⌜ r ≡ grantNumber self ⌝ }
-    {
-        match self {
-            GrantRefusal::NotOpen => 40,
-            GrantRefusal::GrantTooLarge => 41,
-            GrantRefusal::TooManySteps => 42,
-        }
-    }
-}
 
 // Takes as many steps as are granted, or those left until the script ends or traps; how many.
 pub fn advance<M: Memory>(
