@@ -80,7 +80,7 @@ pub record Same (s : Session) (cells : List Cell) (s′ : Session) (cells′ : L
 -- Opens.
 
 -- a session that stands at the start of its script
-pub record Set (o : Opening) (s : Session) : Type 0 where
+pub record AtStart (o : Opening) (s : Session) : Type 0 where
   pub shown : view (s .course) (replicate (o .limit) None) ≡ start o
   pub opened : s .«open» ≡ true
   pub limited : s .limit ≡ o .limit

@@ -1,11 +1,11 @@
 // Runs a checked script step by step over a memory.
-pub mod advance;
 mod begin;
 mod frame;
+pub mod granting;
 mod inputs;
 mod lawful;
 mod machine;
-pub mod open;
+pub mod opening;
 mod output;
 mod print;
 pub mod refusal;
@@ -14,6 +14,11 @@ pub mod session;
 mod stack;
 mod step;
 mod table;
+#[cfg(test)]
+mod tests;
 mod text;
 pub mod trap;
 pub mod verdict;
+
+pub use granting::advance;
+pub use opening::open;

@@ -1,7 +1,7 @@
 use native.Mathlib.Omega.{arith}
 use Rattle.std.specs.declared.option.Option.the-variants.{None}
 use Rattle.runner.proofs.Below.{fills}
-use Rattle.runner.proofs.open.clear_below.Needs as need
+use Rattle.runner.proofs.opening.clear_below.Needs as need
 
 pub loop-cell-again : need.loop-cell-again
 loop-cell-again g c =

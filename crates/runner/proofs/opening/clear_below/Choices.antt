@@ -1,7 +1,7 @@
 use mathlib.Core.Path.{_≡_}
 use lib.ListN.{length, take, drop, replicate}
 use Rattle.std.specs.declared.option.Option.the-variants.{None}
-use Rattle.runner.proofs.open.clear_below.Given as given
+use Rattle.runner.proofs.opening.clear_below.Given as given
 
 abbrev pub Inv-loop-cell : given.InvT-loop-cell
 Inv-loop-cell g l =

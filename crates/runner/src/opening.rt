@@ -6,7 +6,7 @@ ghost use Rattle.std.specs.declared.option.Option.the-variants.{None};
 ghost use Rattle.std.specs.declared.result.Result.the-variants.{Err};
 ghost use Rattle.std.specs.Results.{Cases};
 ghost use Rattle.check.specs.Notes.{cleared};
-ghost use Rattle.runner.specs.Calls.{mainBody, limitFits, Set, Opened};
+ghost use Rattle.runner.specs.Calls.{mainBody, limitFits, AtStart, Opened};
 use check::check_table;
 use check::clear_notes;
 use check::node::Node;
@@ -21,7 +21,7 @@ use crate::refusal::OpenRefusalFromRefusal;
 use crate::session::Session;
 use crate::verdict::Verdict;
 
-// Most cells of a script.
+// The most cells of a script.
 const CELLS: usize = 65_535;
 
 fn limit_fits(limit: usize, size: usize) -> bool
@@ -54,9 +54,9 @@ fn clear_below<M: Memory>(memory: &mut M, limit: usize)
 }
 
 // Sets the session to the start of its script.
-fn set(session: &mut Session, table: &[Node], inputs: &[Value], limit: usize)
+fn set_to_start(session: &mut Session, table: &[Node], inputs: &[Value], limit: usize)
     requires { ⌜ length (now inputs) ≤ 64 ⌝ }
-    ensures { λ _. ⌜ Set (record { script = now (table .entry); inputs = now (inputs .entry); limit = limit }) (now (session .exit)) ⌝ }
+    ensures { λ _. ⌜ AtStart (record { script = now (table .entry); inputs = now (inputs .entry); limit = limit }) (now (session .exit)) ⌝ }
 {
     session.course.machine.frames.clear();
     session.course.machine.next = main_body(table);
@@ -102,6 +102,6 @@ pub fn open<M: Memory>(
         return refuse(notes, table.len(), OpenRefusal::Inputs);
     }
     clear_below(memory, limit);
-    set(session, table, inputs, limit);
+    set_to_start(session, table, inputs, limit);
     Ok(())
 }

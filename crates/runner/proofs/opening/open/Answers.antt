@@ -2,7 +2,7 @@ use mathlib.Core.Path.{refl, sym, _∙_}
 use Rattle.runner.specs.declared.refusal.OpenRefusal.the-variants.{CellLimit, Inputs}
 use Rattle.runner.specs.Calls.{Opening}
 use Rattle.runner.proofs.Opens.{refuses, unchanged, no-limit, no-inputs}
-use Rattle.runner.proofs.open.open.Needs as need
+use Rattle.runner.proofs.opening.open.Needs as need
 
 pub returns-then-not-limit-fits : need.returns-then-not-limit-fits
 returns-then-not-limit-fits g c =

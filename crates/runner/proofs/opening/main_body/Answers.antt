@@ -1,7 +1,7 @@
 use Rattle.check.specs.Tree.{blank}
 use Rattle.runner.proofs.Opens.{main-here, other-kind, other-name, main-none}
-use Rattle.runner.proofs.open.main_body.Needs as need
-use Rattle.runner.proofs.open.main_body.Needs.{else-node-eq2·by·then-node-eq2·else-node-eq10, else-node-eq2·by·else-node-eq2}
+use Rattle.runner.proofs.opening.main_body.Needs as need
+use Rattle.runner.proofs.opening.main_body.Needs.{else-node-eq2·by·then-node-eq2·else-node-eq10, else-node-eq2·by·else-node-eq2}
 
 pub returns-then-node-eq10 : need.returns-then-node-eq10
 returns-then-node-eq10 c =
