@@ -8,7 +8,7 @@ use native.Mathlib.Omega.{arith}
 use lib.ListN.{length, getD, drop}
 use lib.Dec.{eqb, ltb, leb}
 use native.Mathlib.Nat.{add-zero}
-use Rattle.std.proofs.shelf.Tests.{ne-eqb, cond-true, cond-false, cases-eq, cases-bool, and-parts}
+use Rattle.std.proofs.shelf.Tests.{ne-eqb, cond-true, cond-false, cases-eq, cases-bool, and-parts, leb-true}
 use Rattle.std.proofs.shelf.Lists.{at-drop-more, at-drop-all}
 use Rattle.std.specs.declared.result.Result.{Result}
 use Rattle.std.specs.declared.result.Result.the-variants.{Ok, Err}
@@ -18,8 +18,8 @@ use Rattle.check.specs.declared.refusal.Refusal.{Refusal}
 use Rattle.check.specs.Tree.{nodeAt, blank, Up, Links, Linked, left}
 use Rattle.check.specs.declared.refusal.Question.{Question}
 use Rattle.check.specs.declared.refusal.Question.the-variants.{NodeForm}
-use Rattle.check.specs.Questions.{refuse}
-use Rattle.check.specs.Form.{ofClass, linkFits, chainGrows, chainFits, askFrom, askEach, hit, timesLinked, lower, linksFit, rootFits, shapeFits, shapeOf, nodeFits}
+use Rattle.check.specs.Questions.{refuse, then}
+use Rattle.check.specs.Form.{ofClass, linkFits, chainGrows, chainFits, askFrom, askEach, hit, timesLinked, lower, linksFit, rootFits, shapeFits, shapeOf, nodeFits, sized, formed}
 use Rattle.check.proofs.Trees.{up-within, up-room, link-up, left-link}
 
 module _ (t : List Node) (class : Class) where
@@ -166,3 +166,17 @@ formed-linked t e n pos w =
       to-c = link-up t n (nodeAt t n .c) (l .2);
       to-next = link-up t n (nodeAt t n .next) (l .3);
     }
+
+-- where all questions about every node were answered yes, the first was
+pub first-yes : {Y : Type 0} (r : Result (Unit {0}) Refusal) (k : Unit {0} → Result Y Refusal) (y : Y) → then r k ≡ Ok y → r ≡ Ok tt
+first-yes (Ok u) k y e = refl
+first-yes (Err f) k y e = let z : _≡_ {A = ℕ} 0 1 = cc in absurd (omega arith)
+
+pub nodes-linked : (t : List Node) → Ok tt ≡ formed t → Linked t
+nodes-linked t e = formed-linked t (first-yes (askEach (nodeFits t) NodeForm t) _ tt (sym e))
+
+pub sized-parts : (len places : ℕ) → sized len places ≡ true → (1 ≤ len) × (len ≤ 4096) × (len ≤ places)
+sized-parts len places e =
+    let p = and-parts (leb 1 len) (leb len 4096 && leb len places) e in
+    let q = and-parts (leb len 4096) (leb len places) (p .1) in
+    (leb-true _ _ (p .0), leb-true _ _ (q .0), leb-true _ _ (q .1))

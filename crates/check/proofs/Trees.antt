@@ -119,3 +119,11 @@ module _ (t : List Node) (linked : Linked t) (n : ℕ) (nz : n ≡ 0 → ⊥) (w
 
   pub within-next : nodeAt t n .next ≤ length t
   within-next = up-within t n (nodeAt t n .next) (linked n pos w .to-next)
+
+pub left-within : (t : List Node) (n : ℕ) → n ≤ length t → left t n ≤ length t
+unfolding left
+left-within t n w =
+    elim (cases-eq n 0) [
+      | inl e ↦ let z : left t n ≡ 0 = rw e refl in omega arith
+      | inr ne ↦ let p : 0 < n = omega arith in omega (arith, left-at t n p)
+    ]

@@ -137,10 +137,12 @@ shallow t n = cond (eqb n 0) (Ok tt) (refuse Depth n (nodeAt t n .line))
 abbrev pub sized : ℕ → ℕ → Bool
 sized len places = leb 1 len && (leb len 4096 && leb len places)
 
--- the questions about the whole table, in their order
-abbrev pub formed : List Node → ℕ → Result (Unit {0}) Refusal
-formed t places =
-    cond (sized (length t) places)
-    (then (askEach (nodeFits t) NodeForm t)
-     (λ _. then (askEach (linkedOnce t) LinkedOnce t) (λ _. shallow t (lowestDeep 1 (tree t 1)))))
-    (refuse TableSize 0 0)
+-- the question about the table's size, which names no node
+abbrev pub askSize : ℕ → ℕ → Result (Unit {0}) Refusal
+askSize len places = cond (sized len places) (Ok tt) (refuse TableSize 0 0)
+
+-- the questions about every node, in their order
+abbrev pub formed : List Node → Result (Unit {0}) Refusal
+formed t =
+    then (askEach (nodeFits t) NodeForm t)
+    (λ _. then (askEach (linkedOnce t) LinkedOnce t) (λ _. shallow t (lowestDeep 1 (tree t 1))))

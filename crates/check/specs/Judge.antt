@@ -2,10 +2,11 @@
 use mathlib.Core.Path.{_≡_}
 use mathlib.Core.Bool.{Bool, true, false, cond}
 use mathlib.Core.List.{List, [], _∷_}
-use Prim.Native.Nat.{ℕ, _+_}
-use lib.ListN.{length}
+use Prim.Native.Nat.{ℕ, _+_, _≤_}
+use lib.ListN.{length, drop}
 use lib.Dec.{eqb, ltb}
 use Rattle.std.specs.Options.{isSome}
+use Rattle.std.specs.Results.{isOk}
 use Rattle.std.specs.declared.option.Option.{Option}
 use Rattle.std.specs.declared.option.Option.the-variants.{Some, None}
 use Rattle.std.specs.declared.result.Result.{Result}
@@ -17,6 +18,7 @@ use Rattle.check.specs.declared.refusal.Question.the-variants.{NodeForm, NewNa
 use Rattle.check.specs.declared.shelf.Name.{Name}
 use Rattle.check.specs.declared.types.Valued.{Valued}
 use Rattle.check.specs.Questions.{refuse, then}
+use Rattle.check.specs.Search.{newestFirst}
 use Rattle.check.specs.Scope.{means, declared, outermost}
 use Rattle.check.specs.Tree.{Tree, none, at, tree, nodeAt}
 use Rattle.check.specs.Typing.{Out, values}
@@ -71,3 +73,35 @@ ended t (Err e) = Err e
 -- the whole program, over notes that are taken back
 abbrev pub program : List Node → List Note → Result (List Note) Refusal
 program t notes = ended t (declarations outermost (tree t (nodeAt t 1 .a)) notes)
+
+-- an answer and the notes that were left, as one
+abbrev pub leaves : Result (Unit {0}) Refusal → List Note → Result (List Note) Refusal
+leaves (Ok u) notes = Ok notes
+leaves (Err e) notes = Err e
+
+-- A call that was to come to out answered r: its answer and the notes after it are out's, those beyond the table are
+-- as they were, and as many names are on the shelf as before, whatever it answered.
+pub record Walks (t : List Node) (out : Result (List Note) Refusal) (count : ℕ) (notes : List Note) (r : Result (Unit {0}) Refusal) (count′ : ℕ) (notes′ : List Note) : Type 0 where
+  pub result : out ≡ leaves r notes′
+  pub beyond : drop (length t) notes′ ≡ drop (length t) notes
+  pub kept : count′ ≡ count
+
+-- an answer, the names in scope and the notes that were left, as one
+abbrev pub leavesNames : Result (Unit {0}) Refusal → List Name → List Note → Out (List Name)
+leavesNames (Ok u) scope notes = Ok (scope, notes)
+leavesNames (Err e) scope notes = Err e
+
+-- A call that was to come to out answered r, with these names in scope and these notes after it. The shelf has room for them.
+pub record Declares (t : List Node) (out : Out (List Name)) (notes : List Note) (r : Result (Unit {0}) Refusal) (names : List Name) (count : ℕ) (notes′ : List Note) : Type 0 where
+  pub result : out ≡ leavesNames r (newestFirst names count) notes′
+  pub beyond : drop (length t) notes′ ≡ drop (length t) notes
+  pub room : isOk r ≡ true → count ≤ 512
+
+abbrev pub leavesScope : Result (Unit {0}) Refusal → List Name → Result (List Name) Refusal
+leavesScope (Ok u) scope = Ok scope
+leavesScope (Err e) scope = Err e
+
+-- A declaration was to be entered.
+pub record Enters (out : Result (List Name) Refusal) (r : Result (Unit {0}) Refusal) (names : List Name) (count : ℕ) : Type 0 where
+  pub result : out ≡ leavesScope r (newestFirst names count)
+  pub room : isOk r ≡ true → count ≤ 512

@@ -17,6 +17,7 @@ use Rattle.check.specs.declared.shelf.Name.{Name}
 use Rattle.check.specs.declared.types.Ty.{Ty}
 use Rattle.check.specs.declared.types.Ty.the-variants.{Void, Int}
 use Rattle.check.specs.declared.types.Valued.{Valued}
+use Rattle.check.specs.declared.types.Arguments.{Arguments}
 use Rattle.check.specs.Questions.{refuse, then}
 use Rattle.check.specs.Notes.{put}
 use Rattle.check.specs.Scope.{means}
@@ -57,6 +58,18 @@ abbrev pub argumentsFit : Option Valued → Result Ty Refusal
 argumentsFit None = Ok Void
 argumentsFit (Some x) = refuse WantedType (x .node) (x .line)
 
+-- what the arguments of a call come to, after some that came before them
+abbrev pub earlier : Option Valued → Option Valued → Option Valued
+earlier (Some x) y = Some x
+earlier None y = y
+
+abbrev pub noArguments : Arguments
+noArguments = record { count = 0; unfit = None }
+
+abbrev pub after : Arguments → Out (List Valued) → Out Arguments
+after s (Ok p) = Ok (record { count = s .count + length (p .0); unfit = earlier (s .unfit) (firstUnfit (p .0)) }, p .1)
+after s (Err e) = Err e
+
 -- a call that means this declaration: it is not main, and its arguments are as many as the parameters and fit
 abbrev pub callOf : ℕ → Node → Option Name → ℕ → Option Valued → Result Ty Refusal
 callOf n d None count unfit = refuse InScope n (d .line)
@@ -84,3 +97,18 @@ values scope (at n d a b c next) notes =
     then (typeAt scope n d (values scope a) notes)
     (λ p. then (values scope next (put n (noteOf (p .0)) (p .1)))
     (λ q. Ok (valued n d (p .0) ∷ q .0, q .1)))
+
+-- an answer and the notes that were left, as one
+abbrev pub carries : {X : Type 0} → Result X Refusal → List Note → Out X
+carries (Ok x) notes = Ok (x, notes)
+carries (Err e) notes = Err e
+
+-- The expression at node n was typed with these names in scope: the answer was r, with these notes after it.
+pub record Types (t : List Node) (scope : List Name) (n : ℕ) (notes : List Note) (r : Result Ty Refusal) (notes′ : List Note) : Type 0 where
+  pub result : typeAt scope n (nodeAt t n) (values scope (tree t (nodeAt t n .a))) notes ≡ carries r notes′
+  pub beyond : drop (length t) notes′ ≡ drop (length t) notes
+
+-- The chain of expressions on a link was typed.
+pub record Gathers (t : List Node) (scope : List Name) (first : ℕ) (notes : List Note) (r : Result Arguments Refusal) (notes′ : List Note) : Type 0 where
+  pub result : after noArguments (values scope (tree t first) notes) ≡ carries r notes′
+  pub beyond : drop (length t) notes′ ≡ drop (length t) notes

@@ -17,7 +17,7 @@ ghost use mathlib.Core.Path.{_≡_};
 ghost use Prim.Native.Nat.{_+_, _<_, _≤_};
 ghost use lib.ListN.{length};
 ghost use Rattle.check.specs.Tree.{blank, nodeAt, Linked, tree};
-ghost use Rattle.check.specs.Form.{chainFits, oneFits, childFits, shapeFits, nodeFits, askEach, hit, timesLinked, linkedOnce, lower, lowestDeep, shallow, formed};
+ghost use Rattle.check.specs.Form.{chainFits, oneFits, childFits, shapeFits, nodeFits, askEach, hit, timesLinked, linkedOnce, lower, lowestDeep, shallow, askSize, formed};
 
 const DEEPEST: u8 = 200;
 const MOST_NODES: usize = 4096;
@@ -202,11 +202,10 @@ fn ask_depth(table: &[Node]) -> Result<(), Refusal>
     })
 }
 
-// All questions about the whole table, where there are so many places for notes.
-pub(crate) fn ask_table(table: &[Node], places: usize) -> Result<(), Refusal>
-    ensures { λ r. ⌜ r ≡ formed (now (table .entry)) places ⌝ }
+// Are there 1 to 4,096 nodes, and as many places for notes?
+pub(crate) fn ask_size(len: usize, places: usize) -> Result<(), Refusal>
+    ensures { λ r. ⌜ r ≡ askSize len places ⌝ }
 {
-    let len = table.len();
     if len < 1 || len > MOST_NODES || len > places {
         return Err(Refusal {
             question: Question::TableSize,
@@ -214,6 +213,14 @@ pub(crate) fn ask_table(table: &[Node], places: usize) -> Result<(), Refusal>
             line: 0,
         });
     }
+    Ok(())
+}
+
+// The questions about every node, in their order.
+pub(crate) fn ask_nodes(table: &[Node]) -> Result<(), Refusal>
+    requires { ⌜ (1 ≤ length (now table)) × (length (now table) ≤ 4096) ⌝ }
+    ensures { λ r. ⌜ r ≡ formed (now (table .entry)) ⌝ }
+{
     ask_form(table)?;
     ask_links(table)?;
     ask_depth(table)

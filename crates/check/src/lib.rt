@@ -1,12 +1,15 @@
 // Checks a script: a table of nodes is accepted exactly when it has the form
 // of a script and VC's rules give it types.
 pub mod check;
-pub mod form;
+mod declarations;
+mod expressions;
+mod form;
+mod statements;
 pub mod node;
 pub mod note;
 pub mod refusal;
 pub mod search;
-pub mod shape;
+mod shape;
 pub mod shelf;
 pub mod types;
 

@@ -12,3 +12,11 @@ pub struct Valued {
     pub line: u16,
     pub ty: Ty,
 }
+
+// What the arguments of a call come to: how many, and the first of them that
+// does not have the type that is wanted.
+#[derive(Clone, Copy)]
+pub struct Arguments {
+    pub count: usize,
+    pub unfit: Option<Valued>,
+}

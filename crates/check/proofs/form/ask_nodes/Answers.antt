@@ -1,7 +1,7 @@
 use mathlib.Core.Path.{sym}
 use native.Mathlib.Omega.{arith}
 use Rattle.check.proofs.Forms.{formed-linked}
-use Rattle.check.proofs.form.ask_table.Needs as need
+use Rattle.check.proofs.form.ask_nodes.Needs as need
 
 pub ask-depth-requires : need.ask-depth-requires
 ask-depth-requires c κs =
