@@ -60,7 +60,7 @@ impl Session {
     pub fn place(&self) -> u16
         ensures { λ r. ⌜ r ≡ placeOf (now (self .entry) .course .machine .verdict) (now (self .entry) .course .last) ⌝ }
     {
-        match self.course.machine.verdict {
+        match self.verdict() {
             Verdict::Trapped { trap: _, place } => place,
             _ => self.course.last,
         }

@@ -76,3 +76,38 @@ fn prints_in_four_steps() -> Result<(), Fail> {
     check_eq(session.verdict().value(), 0)?;
     check_eq(session.output(), b"7\n")
 }
+
+#[test]
+fn another_table_has_no_rule() -> Result<(), Fail> {
+    let table = prints_seven();
+    let mut notes = no_notes();
+    let mut cells = [Value { ty: 0, word: 0 }; 4];
+    let mut memory = CellRecords::new(&mut cells);
+    let mut session = opened(&table, &mut notes, &mut memory)?;
+    let other = [node(99, 0, 0, 0); 6];
+    check(advance(&mut session, &other, &notes, &mut memory, 5).is_ok())?;
+    check_eq(session.steps(), 1)?;
+    check_eq(session.verdict().number(), 2)?;
+    check_eq(session.verdict().value(), 11)?;
+    check_eq(session.place(), 3)
+}
+
+fn number(answer: Result<u32, GrantRefusal>) -> u8 {
+    match answer {
+        Ok(_) => 0,
+        Err(refusal) => refusal.number(),
+    }
+}
+
+#[test]
+fn grants_are_refused() -> Result<(), Fail> {
+    let table = prints_seven();
+    let mut notes = no_notes();
+    let mut cells = [Value { ty: 0, word: 0 }; 4];
+    let mut memory = CellRecords::new(&mut cells);
+    let mut new = Session::new();
+    check_eq(number(advance(&mut new, &table, &notes, &mut memory, 0)), 40)?;
+    let mut session = opened(&table, &mut notes, &mut memory)?;
+    check_eq(number(advance(&mut session, &table, &notes, &mut memory, 1_000_001)), 41)?;
+    check_eq(number(advance(&mut session, &table, &notes, &mut memory, 1_000_000)), 0)
+}
