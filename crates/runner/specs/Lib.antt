@@ -1,0 +1,12 @@
+pub mod Newest
+pub mod Printed
+pub mod Written
+pub mod Given
+pub mod Shown
+pub mod Verdicts
+pub mod State
+pub mod Rules
+pub mod Run
+pub mod Books
+pub mod Refusals
+pub mod Calls
