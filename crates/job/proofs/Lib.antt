@@ -1,0 +1,4 @@
+pub mod Held
+pub mod Pieces
+pub mod Digits
+pub mod Fields
