@@ -2,3 +2,5 @@ pub mod Held
 pub mod Pieces
 pub mod Digits
 pub mod Fields
+pub mod Widths
+pub mod Sheets

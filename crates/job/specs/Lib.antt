@@ -1,3 +1,5 @@
 pub mod Held
 pub mod Lines
 pub mod Pieces
+pub mod Format
+pub mod Meant
