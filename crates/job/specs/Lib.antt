@@ -3,3 +3,4 @@ pub mod Lines
 pub mod Pieces
 pub mod Format
 pub mod Meant
+pub mod Printed
