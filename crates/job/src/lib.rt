@@ -4,3 +4,6 @@ mod fill;
 pub mod report;
 pub mod rows;
 pub mod sheet;
+
+#[cfg(test)]
+mod tests;
