@@ -26,7 +26,7 @@ pub cut-on : (mark : ℕ) (text : List ℕ) (i : ℕ) → i < length text → (g
 cut-on mark text i h other e =
     let step : cut mark (drop i text) ≡ cut mark (getD text i 0 ∷ drop (i + 1) text) = at-drop-more (cut mark) text i 0 h in
     let past : cut mark (getD text i 0 ∷ drop (i + 1) text) ≡ led (getD text i 0) (cut mark (drop (i + 1) text)) =
-      cond-false _ _ _ (ne-eqb _ _ other) in
+    cond-false _ _ _ (ne-eqb _ _ other) in
     e ∙ ap (before (take i text)) (step ∙ past) ∙ before-led (take i text) (getD text i 0) (cut mark (drop (i + 1) text))
     ∙ ap (λ (f : List ℕ). before f (cut mark (drop (i + 1) text))) (sym (take-more text i 0 h))
 
@@ -36,7 +36,7 @@ pub cut-here : (mark : ℕ) (text : List ℕ) (i : ℕ) → i < length text → 
 cut-here mark text i h same e =
     let step : cut mark (drop i text) ≡ cut mark (getD text i 0 ∷ drop (i + 1) text) = at-drop-more (cut mark) text i 0 h in
     let past : cut mark (getD text i 0 ∷ drop (i + 1) text) ≡ [] ∷ cut mark (drop (i + 1) text) =
-      cond-true _ _ _ (eq-eqb _ _ same) in
+    cond-true _ _ _ (eq-eqb _ _ same) in
     e ∙ ap (before (take i text)) (step ∙ past)
     ∙ ap (λ (p : List ℕ). p ∷ cut mark (drop (i + 1) text)) (append-nil (take i text))
 
@@ -61,5 +61,6 @@ pub cut-some : (mark : ℕ) (text : List ℕ) → (p : List ℕ) × ((ps : List 
 cut-some mark [] = ([], ([], refl))
 cut-some mark (byte ∷ text) =
     elim (cases-bool (eqb byte mark)) [
-      inl e ↦ ([], (cut mark text, cond-true _ _ _ e))
-    | inr e ↦ let h = led-some byte (cut mark text) (cut-some mark text) in (h .0, (h .1 .0, cond-false _ _ _ e ∙ h .1 .1)) ]
+      | inl e ↦ ([], (cut mark text, cond-true _ _ _ e))
+      | inr e ↦ let h = led-some byte (cut mark text) (cut-some mark text) in (h .0, (h .1 .0, cond-false _ _ _ e ∙ h .1 .1))
+    ]

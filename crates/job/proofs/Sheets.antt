@@ -24,14 +24,14 @@ module _ (text line : List ℕ) (rest : Option (RefT (List ℕ))) (more : RefT (
       let some = cut-some 10 (more .now) in
       ap (laterLines s) cuts
       ∙ (let P : List (List ℕ) → Type 0 = λ ps. laterLines s (line ∷ ps) ≡ andThen (nextLine s) (laterLine s line) (λ t. laterLines t ps) in
-         subst P (sym (some .1 .1)) refl)
+      subst P (sym (some .1 .1)) refl)
 
   sheet-on : sheetOf text ≡ andThen 1 (firstLine line) (λ t. laterLines t (cut 10 (more .now)))
   sheet-on =
       let some = cut-some 10 (more .now) in
       ap sheetLines cuts
       ∙ (let P : List (List ℕ) → Type 0 = λ ps. sheetLines (line ∷ ps) ≡ andThen 1 (firstLine line) (λ t. laterLines t ps) in
-         subst P (sym (some .1 .1)) refl)
+      subst P (sym (some .1 .1)) refl)
 
   pub line-faulty : (s : SheetMeaning) (q : SheetQuestion) → Err q ≡ laterLine s line → refused q (nextLine s) ≡ laterLines s (cut 10 text)
   line-faulty s q f = sym (lines-on s ∙ ap (λ (r : Result SheetMeaning SheetQuestion). andThen (nextLine s) r (λ t. laterLines t (cut 10 (more .now)))) (sym f))

@@ -3,6 +3,7 @@ use crate::rows::Rows;
 ghost use mathlib.Core.Path.{_≡_};
 ghost use mathlib.Core.Bool.{cond};
 ghost use mathlib.Core.List.{[], _∷_, _++_};
+ghost use Prim.Native.Nat.{_≤_};
 ghost use lib.ListN.{length};
 ghost use lib.Dec.{ltb};
 ghost use Rattle.job.specs.Held.{held};
@@ -38,7 +39,8 @@ impl<T: Copy, const N: usize> Rows<T, N> {
     }
 
     pub(crate) fn as_slice(&self) -> &[T]
-        ensures { λ r. ⌜ now r ≡ held (now (self .entry)) ⌝ }
+        ensures rows { λ r. ⌜ now r ≡ held (now (self .entry)) ⌝ }
+        ensures few { λ r. ⌜ length (now r) ≤ N ⌝ }
     {
         let all = &self.items[..];
         &all[0..self.count]

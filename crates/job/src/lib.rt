@@ -4,6 +4,5 @@ mod fill;
 pub mod report;
 pub mod rows;
 pub mod sheet;
-
 #[cfg(test)]
 mod tests;

@@ -5,14 +5,19 @@ use crate::rows::Rows;
 use check::node::Node;
 use memories::Value;
 ghost use mathlib.Core.Path.{_≡_};
+ghost use Prim.Native.Nat.{_≤_};
+ghost use lib.ListN.{length};
 ghost use Rattle.job.specs.Lines.{cut};
 ghost use Rattle.job.specs.Format.{questionNumber, noneAbove, opened, firstLine, inputLine, nodeLine};
 ghost use Rattle.job.specs.Format.{laterLine, laterLines, nextLine, sheetOf};
 ghost use Rattle.job.specs.Meant.{meant, carried, meaning};
 
 const NEWLINE: u8 = b'\n';
+
 const FIRST_MOST: [u64; 2] = [65_535, 1_099_511_627_776];
+
 const INPUT_MOST: [u64; 2] = [0xff, 0xffff_ffff];
+
 const NODE_MOST: [u64; 8] = [
     0xff,
     0xff,
@@ -186,13 +191,15 @@ impl Sheet {
     }
 
     pub fn inputs(&self) -> &[Value]
-        ensures { λ r. ⌜ now r ≡ meant (now (self .entry)) .inputs ⌝ }
+        ensures rows { λ r. ⌜ now r ≡ meant (now (self .entry)) .inputs ⌝ }
+        ensures few { λ r. ⌜ length (now r) ≤ 64 ⌝ }
     {
         self.inputs.as_slice()
     }
 
     pub fn table(&self) -> &[Node]
-        ensures { λ r. ⌜ now r ≡ meant (now (self .entry)) .table ⌝ }
+        ensures rows { λ r. ⌜ now r ≡ meant (now (self .entry)) .table ⌝ }
+        ensures few { λ r. ⌜ length (now r) ≤ 4096 ⌝ }
     {
         self.table.as_slice()
     }

@@ -14,4 +14,4 @@ returns-in-Continue-add-lines c =
     let first = c .cut-first-first .result in
     c .in-Continue-add-lines .ensures tt
     ∙ sym (first-good (c .args .bytes .now) (first .piece .now) (first .rest) (c .in-Some .rest)
-      (c .cut-first-first .ensures .pieces) (c .in-Some .is) (meant (c .in-Ok .sheet)) (c .in-Ok .ensures tt))
+    (c .cut-first-first .ensures .pieces) (c .in-Some .is) (meant (c .in-Ok .sheet)) (c .in-Ok .ensures tt))

@@ -9,8 +9,8 @@ returns-in-Err c =
     let first = c .cut-first-first .result in
     ap (refused (c .in-Err .question)) (c .next-line-line .ensures)
     ∙ line-faulty (c .loop-more .rest .now) (first .piece .now) (first .rest) (c .in-Some .more)
-      (c .cut-first-first .ensures .pieces) (c .in-Some .is)
-      (meant (c .loop-more .self)) (c .in-Err .question) (c .in-Err .ensures tt)
+    (c .cut-first-first .ensures .pieces) (c .in-Some .is)
+    (meant (c .loop-more .self)) (c .in-Err .question) (c .in-Err .ensures tt)
     ∙ sym (c .loop-more .inv)
 
 pub loop-more-again : need.loop-more-again
@@ -18,5 +18,5 @@ loop-more-again c =
     let first = c .cut-first-first .result in
     c .loop-more .inv
     ∙ line-good (c .loop-more .rest .now) (first .piece .now) (first .rest) (c .in-Some .more)
-      (c .cut-first-first .ensures .pieces) (c .in-Some .is)
-      (meant (c .loop-more .self)) (meant (c .add-line .last .self)) (c .in-rest-add-line .ensures tt)
+    (c .cut-first-first .ensures .pieces) (c .in-Some .is)
+    (meant (c .loop-more .self)) (meant (c .add-line .last .self)) (c .in-rest-add-line .ensures tt)
