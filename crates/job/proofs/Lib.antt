@@ -4,3 +4,5 @@ pub mod Digits
 pub mod Fields
 pub mod Widths
 pub mod Sheets
+pub mod Spent
+pub mod Played

@@ -4,3 +4,4 @@ pub mod Pieces
 pub mod Format
 pub mod Meant
 pub mod Printed
+pub mod Jobs

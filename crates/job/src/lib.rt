@@ -1,8 +1,10 @@
 // A job: a script with its inputs, read from a sheet, and the report of its run.
 mod cut;
+pub mod fault;
 mod fill;
 pub mod report;
 pub mod rows;
+pub mod run;
 pub mod sheet;
 #[cfg(test)]
 mod tests;
