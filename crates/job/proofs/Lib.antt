@@ -4,3 +4,4 @@ pub mod Digits
 pub mod Fields
 pub mod Widths
 pub mod Sheets
+pub mod Readback

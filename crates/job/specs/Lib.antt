@@ -3,4 +3,5 @@ pub mod Lines
 pub mod Pieces
 pub mod Format
 pub mod Meant
+pub mod Writing
 pub mod Printed
