@@ -14,6 +14,7 @@ use Rattle.check.specs.declared.node.Node.{Node}
 use Rattle.memories.specs.declared.Value.{Value}
 use Rattle.std.specs.declared.option.Option.{Option}
 use Rattle.std.specs.declared.option.Option.the-variants.{Some, None}
+use Rattle.std.specs.declared.result.Result.{Result}
 use Rattle.std.specs.declared.result.Result.the-variants.{Ok, Err}
 use Rattle.std.specs.shelf.Lists.{All}
 use Rattle.std.proofs.shelf.Decimals.{decimal-some, length-decimal-le, digits-decimal, value-decimal}
@@ -23,8 +24,9 @@ use Rattle.std.proofs.shelf.Lists.{length-push}
 use Rattle.job.specs.Lines.{led, cut, numberOf, andNumbers, numbersOf, afterLetter, fieldsOf}
 use Rattle.job.specs.Format.{SheetMeaning, ifSome, isEmpty, noneAbove, usable, inputLargest, nodeLargest, opened, withInput, withNode}
 use Rattle.job.specs.declared.sheet.SheetQuestion.the-variants.{LineForm}
-use Rattle.job.specs.Format.{firstLine, inputLine, nodeLine, laterLine, laterLines}
-use Rattle.job.specs.Writing.{fieldTexts, lineBefore, inputFields, nodeFields, inputsText, nodesText, sheetText, ReadsBack}
+use Rattle.job.specs.declared.sheet.SheetRefusal.{SheetRefusal}
+use Rattle.job.specs.Format.{firstLine, inputLine, nodeLine, laterLine, laterLines, sheetOf}
+use Rattle.job.specs.Writing.{fieldTexts, lineBefore, inputFields, nodeFields, inputsText, nodesText, sheetText, Writable, ReadsBack}
 use Rattle.job.proofs.Digits.{in-range}
 use Rattle.job.proofs.Sheets.{line-good, first-good}
 
@@ -179,7 +181,7 @@ module _ (cells steps : ℕ) (fit : usable (cells ∷ steps ∷ []) ≡ true) wh
       let back : fieldsOf 67 2 (67 ∷ fieldTexts (cells ∷ steps ∷ [])) ≡ Some (cells ∷ steps ∷ []) = fields-back 67 (cells ∷ steps ∷ []) (λ e. omega arith) first-short in
       sym (rw (back, fit))
 
-pub reads-back : ReadsBack
+reads-back : (s : SheetMeaning) → Writable s → sheetOf (sheetText s) ≡ Ok s
 reads-back s w =
     let job = s .cells ∷ s .steps ∷ [] in
     let rest = inputsText (s .inputs) (nodesText (s .table)) in
@@ -190,3 +192,6 @@ reads-back s w =
     (opened (s .cells) (s .steps)) (first-line (s .cells) (s .steps) (w .job))
     ∙ inputs-back (opened (s .cells) (s .steps)) (s .inputs) (nodesText (s .table)) refl (w .inputs) (omega arith)
     ∙ nodes-back (with-inputs (opened (s .cells) (s .steps)) (s .inputs)) (s .table) (w .table) (omega arith)
+
+pub back : (text : List ℕ) (answer : Result SheetMeaning SheetRefusal) → answer ≡ sheetOf text → ReadsBack text answer
+back text answer e s w t = e ∙ ap sheetOf t ∙ reads-back s w

@@ -1,15 +1,17 @@
--- A sheet's text as it is written, and that it reads back.
+-- A sheet's text as it is written.
 use mathlib.Core.Path.{_≡_}
 use mathlib.Core.Bool.{true}
 use mathlib.Core.List.{List, [], _∷_, _++_}
 use Prim.Native.Nat.{ℕ, _≤_}
 use lib.ListN.{length}
 use Rattle.std.specs.Written.{decimal}
+use Rattle.std.specs.declared.result.Result.{Result}
 use Rattle.std.specs.declared.result.Result.the-variants.{Ok}
 use Rattle.std.specs.shelf.Lists.{All}
 use Rattle.check.specs.declared.node.Node.{Node}
 use Rattle.memories.specs.declared.Value.{Value}
-use Rattle.job.specs.Format.{SheetMeaning, noneAbove, usable, inputLargest, nodeLargest, sheetOf}
+use Rattle.job.specs.declared.sheet.SheetRefusal.{SheetRefusal}
+use Rattle.job.specs.Format.{SheetMeaning, noneAbove, usable, inputLargest, nodeLargest}
 
 -- each number after a comma
 abbrev pub fieldTexts : List ℕ → List ℕ
@@ -46,6 +48,6 @@ pub record Writable (s : SheetMeaning) : Type 0 where
   pub few-inputs : length (s .inputs) ≤ 64
   pub few-nodes : length (s .table) ≤ 4096
 
--- what is written of a sheet reads back to that sheet
-abbrev pub ReadsBack : Type 0
-ReadsBack = (s : SheetMeaning) → Writable s → sheetOf (sheetText s) ≡ Ok s
+-- where the text is what is written of a sheet, that sheet is the answer
+abbrev pub ReadsBack : List ℕ → Result SheetMeaning SheetRefusal → Type 0
+ReadsBack text answer = (s : SheetMeaning) → Writable s → text ≡ sheetText s → answer ≡ Ok s

@@ -5,7 +5,6 @@ use crate::rows::Rows;
 use check::node::Node;
 use memories::Value;
 ghost use mathlib.Core.Path.{_≡_};
-ghost use mathlib.Core.Bool.{true};
 ghost use Prim.Native.Nat.{_≤_};
 ghost use lib.ListN.{length};
 ghost use Rattle.job.specs.Lines.{cut};
@@ -221,7 +220,8 @@ fn read_first(line: &[u8]) -> Result<Sheet, SheetQuestion>
 
 // The sheet that `bytes` writes, or the first line with a fault and the question that it fails.
 pub fn read_sheet(bytes: &[u8]) -> Result<Sheet, SheetRefusal>
-    ensures { λ r. ⌜ meaning r ≡ sheetOf (now (bytes .entry)) ⌝ }
+    ensures exact { λ r. ⌜ meaning r ≡ sheetOf (now (bytes .entry)) ⌝ }
+    ensures back { λ r. ⌜ ReadsBack (now (bytes .entry)) (meaning r) ⌝ }
 {
     let first = cut_first(bytes, NEWLINE);
     let Some(rest) = first.rest else {
@@ -237,11 +237,4 @@ pub fn read_sheet(bytes: &[u8]) -> Result<Sheet, SheetRefusal>
             Ok(sheet)
         }
     }
-}
-
-// What is written of a sheet reads back to that sheet.
-pub fn written_sheets_read_back() -> bool
-    ensures { λ r. ⌜ ReadsBack × (r ≡ true) ⌝ }
-{
-    true
 }
