@@ -120,7 +120,8 @@ abbrev pub refused : SheetQuestion → ℕ → Result SheetMeaning SheetRefusal
 refused question n = Err (record { question = question; line = n })
 
 -- what the line of number n says, and then the lines after it
-abbrev pub andThen : ℕ → Result SheetMeaning SheetQuestion → (SheetMeaning → Result SheetMeaning SheetRefusal) → Result SheetMeaning SheetRefusal
+abbrev pub andThen : ℕ → Result SheetMeaning SheetQuestion → (SheetMeaning → Result SheetMeaning SheetRefusal) →
+    Result SheetMeaning SheetRefusal
 andThen n (Ok s) after = after s
 andThen n (Err question) after = refused question n
 
