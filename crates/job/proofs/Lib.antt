@@ -4,5 +4,6 @@ pub mod Digits
 pub mod Fields
 pub mod Widths
 pub mod Sheets
+pub mod Readback
 pub mod Spent
 pub mod Played

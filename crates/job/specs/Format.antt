@@ -9,7 +9,7 @@ use Rattle.std.specs.declared.option.Option.the-variants.{Some, None}
 use Rattle.std.specs.declared.result.Result.{Result}
 use Rattle.std.specs.declared.result.Result.the-variants.{Ok, Err}
 use Rattle.check.specs.declared.node.Node.{Node}
-use Rattle.memories.specs.declared.Value.{Value}
+use Rattle.memories.specs.declared.value.Value.{Value}
 use Rattle.job.specs.declared.sheet.SheetQuestion.{SheetQuestion}
 use Rattle.job.specs.declared.sheet.SheetQuestion.the-variants.{FirstLine, LineForm, FieldWidth, LineCount}
 use Rattle.job.specs.declared.sheet.SheetRefusal.{SheetRefusal}
@@ -51,6 +51,12 @@ noneAbove (most ∷ mosts) (n ∷ ns) = leb n most && noneAbove mosts ns
 abbrev pub largest : List ℕ → List ℕ
 largest widths = map (λ w. 2 ^ w - 1) widths
 
+abbrev pub inputLargest : List ℕ
+inputLargest = largest (8 ∷ 32 ∷ [])
+
+abbrev pub nodeLargest : List ℕ
+nodeLargest = largest (8 ∷ 8 ∷ 32 ∷ 16 ∷ 16 ∷ 16 ∷ 16 ∷ 16 ∷ [])
+
 abbrev pub field : List ℕ → ℕ → ℕ
 field numbers i = getD numbers i 0
 
@@ -77,7 +83,7 @@ withInput s v = record { cells = s .cells; steps = s .steps; inputs = s .inputs 
 abbrev pub inputLine : SheetMeaning → List ℕ → Result SheetMeaning SheetQuestion
 inputLine s ns =
     asked LineForm (isEmpty (s .table))
-    (asked FieldWidth (noneAbove (largest (8 ∷ 32 ∷ [])) ns)
+    (asked FieldWidth (noneAbove inputLargest ns)
     (asked LineCount (ltb (length (s .inputs)) 64)
     (Ok (withInput s (inputOf ns)))))
 
@@ -99,7 +105,7 @@ withNode s n = record { cells = s .cells; steps = s .steps; inputs = s .inputs; 
 -- N with a kind and a type of 8 bits, a value of 32, three children, the next node and a line of 16; at most 4,096
 abbrev pub nodeLine : SheetMeaning → List ℕ → Result SheetMeaning SheetQuestion
 nodeLine s ns =
-    asked FieldWidth (noneAbove (largest (8 ∷ 8 ∷ 32 ∷ 16 ∷ 16 ∷ 16 ∷ 16 ∷ 16 ∷ [])) ns)
+    asked FieldWidth (noneAbove nodeLargest ns)
     (asked LineCount (ltb (length (s .table)) 4096)
     (Ok (withNode s (nodeOf ns))))
 
@@ -114,7 +120,8 @@ abbrev pub refused : SheetQuestion → ℕ → Result SheetMeaning SheetRefusal
 refused question n = Err (record { question = question; line = n })
 
 -- what the line of number n says, and then the lines after it
-abbrev pub andThen : ℕ → Result SheetMeaning SheetQuestion → (SheetMeaning → Result SheetMeaning SheetRefusal) → Result SheetMeaning SheetRefusal
+abbrev pub andThen : ℕ → Result SheetMeaning SheetQuestion → (SheetMeaning → Result SheetMeaning SheetRefusal) →
+    Result SheetMeaning SheetRefusal
 andThen n (Ok s) after = after s
 andThen n (Err question) after = refused question n
 

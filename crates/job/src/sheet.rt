@@ -11,6 +11,7 @@ ghost use Rattle.job.specs.Lines.{cut};
 ghost use Rattle.job.specs.Format.{questionNumber, noneAbove, opened, firstLine, inputLine, nodeLine};
 ghost use Rattle.job.specs.Format.{laterLine, laterLines, nextLine, sheetOf};
 ghost use Rattle.job.specs.Meant.{meant, carried, meaning};
+ghost use Rattle.job.specs.Writing.{ReadsBack};
 
 const NEWLINE: u8 = b'\n';
 
@@ -219,7 +220,8 @@ fn read_first(line: &[u8]) -> Result<Sheet, SheetQuestion>
 
 // The sheet that `bytes` writes, or the first line with a fault and the question that it fails.
 pub fn read_sheet(bytes: &[u8]) -> Result<Sheet, SheetRefusal>
-    ensures { λ r. ⌜ meaning r ≡ sheetOf (now (bytes .entry)) ⌝ }
+    ensures exact { λ r. ⌜ meaning r ≡ sheetOf (now (bytes .entry)) ⌝ }
+    ensures back { λ r. ⌜ ReadsBack (now (bytes .entry)) (meaning r) ⌝ }
 {
     let first = cut_first(bytes, NEWLINE);
     let Some(rest) = first.rest else {
