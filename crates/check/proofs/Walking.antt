@@ -127,3 +127,7 @@ module _ {t : List Node} {first : ℕ} {names : List Name} {count : ℕ} {notes 
 pub declarations-done : {t : List Node} {first : ℕ} {names : List Name} {count : ℕ} {notes : List Note} {n : ℕ} {names₁ : List Name} {count₁ : ℕ} {notes₁ : List Note} → Coming t first names count notes n names₁ count₁ notes₁ → n ≡ 0 → Declares t (declarations (newestFirst names count) (tree t first) notes) notes (Ok tt) names₁ count₁ notes₁
 declarations-done {t} {first} {names} {count} {notes} {n} coming z =
     record { result = coming .rest ∙ rw (tree-none t n z) refl; beyond = coming .beyond; room = λ _. coming .room }
+
+-- an empty expression statement
+pub empty-statement : {t : List Node} (names : List Name) (count n : ℕ) {notes : List Note} → nodeAt t n .kind ≡ 18 → nodeAt t n .a ≡ 0 → Walks t (One t names count n notes) count notes (Ok tt) count notes
+empty-statement {t} names count n k z = record { result = rw (k, tree-none t (nodeAt t n .a) z) refl; beyond = refl; kept = refl }

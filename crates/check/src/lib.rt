@@ -15,3 +15,6 @@ pub mod types;
 
 pub use check::check_table;
 pub use check::clear_notes;
+
+#[cfg(test)]
+mod tests;

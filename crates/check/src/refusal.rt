@@ -1,4 +1,6 @@
 // Why a table is refused, and where.
+ghost use mathlib.Core.Path.{_≡_};
+ghost use Rattle.check.specs.Questions.{questionNumber};
 
 // The questions that a check asks. Each has a number that hosts know it by.
 #[derive(Clone, Copy)]
@@ -25,6 +27,26 @@ pub enum Question {
     NotMain,
     // Are at most 512 names on the shelf?
     ShelfRoom,
+}
+
+impl Question {
+    pub fn number(self) -> u8
+        ensures { λ r. ⌜ r ≡ questionNumber self ⌝ }
+    {
+        match self {
+            Question::TableSize => 1,
+            Question::NodeForm => 2,
+            Question::LinkedOnce => 3,
+            Question::Depth => 4,
+            Question::NewName => 5,
+            Question::InScope => 9,
+            Question::ArgumentCount => 11,
+            Question::WantedType => 12,
+            Question::MainForm => 18,
+            Question::NotMain => 19,
+            Question::ShelfRoom => 20,
+        }
+    }
 }
 
 #[derive(Clone, Copy)]

@@ -45,10 +45,10 @@ pub(crate) fn is_of_class(class: Class, kind: u8) -> bool
     ensures { λ r. ⌜ r ≡ ofClass class kind ⌝ }
 {
     match class {
-        Class::Declaration => kind >= 2 && kind <= 4,
+        Class::Declaration => matches!(kind, 2..=4),
         Class::Block => kind == 10,
-        Class::Statement => (kind >= 10 && kind <= 12) || (kind >= 14 && kind <= 18),
-        Class::Expression => kind >= 20 && kind <= 41,
+        Class::Statement => matches!(kind, 10..=12 | 14..=18),
+        Class::Expression => matches!(kind, 20..=41),
     }
 }
 

@@ -35,6 +35,7 @@ fn walk_statement(
             walk_statements(table, node.b, mark.shelf, names, notes)?;
             Ok(())
         }
+        18 if node.a == 0 => Ok(()),
         18 => {
             type_chain(table, node.a, shelf.count, names, notes)?;
             Ok(())

@@ -1,7 +1,7 @@
 use native.Mathlib.Omega.{arith}
 use Rattle.check.proofs.Trees.{less-b, less-next, within-b}
 use Rattle.check.proofs.Exprs.{broken}
-use Rattle.check.proofs.Walking.{statements-refused, statements-on, statements-done}
+use Rattle.check.proofs.Walking.{empty-statement, statements-refused, statements-on, statements-done}
 use Rattle.check.proofs.statements.+walk_statement+walk_statements.Needs as need
 
 pub walk-statement-walk-statements-requires : need.walk-statement-walk-statements-requires
@@ -22,3 +22,6 @@ walk-statements-loop-at-again t c =
 
 pub walk-statements-returns : need.walk-statements-returns
 walk-statements-returns t c = statements-done (c .loop-at .inv) (c .loop-at-test .left)
+
+pub walk-statement-returns-in-18 : need.walk-statement-returns-in-18
+walk-statement-returns-in-18 t c = empty-statement (c .args .names .now) (c .args .shelf .now .count) (c .args .at) (c .in-18 .is) (c .if-node-eq0 .taken)
