@@ -9,7 +9,7 @@ use lib.Ieee.Bits.{nanBits-is, nanBits-above}
 use lib.ListN.{length, getD, drop}
 use Rattle.std.proofs.shelf.Lists.{drop-more, drop-all}
 use Rattle.std.proofs.shelf.Tests.{lt-ltb}
-use Rattle.memories.specs.declared.Value.{Value}
+use Rattle.memories.specs.declared.value.Value.{Value}
 use Rattle.runner.specs.Given.{lawfulFloat, lawful, allLawful}
 
 -- of the NaNs one is lawful

@@ -9,7 +9,7 @@ use Rattle.std.specs.declared.option.Option.the-variants.{None}
 use Rattle.std.specs.declared.result.Result.{Result}
 use Rattle.std.specs.declared.result.Result.the-variants.{Ok, Err}
 use Rattle.std.specs.Results.{Cases}
-use Rattle.memories.specs.declared.Value.{Value}
+use Rattle.memories.specs.declared.value.Value.{Value}
 use Rattle.check.specs.declared.node.Node.{Node}
 use Rattle.check.specs.declared.note.Note.{Note}
 use Rattle.check.specs.declared.refusal.Refusal.{Refusal}

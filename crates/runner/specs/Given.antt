@@ -5,7 +5,7 @@ use Prim.Native.Nat.{ℕ}
 use lib.Dec.{eqb, leb}
 use lib.Ieee.{binary32, ofBits, isNan}
 use lib.ListN.{length, take}
-use Rattle.memories.specs.declared.Value.{Value}
+use Rattle.memories.specs.declared.value.Value.{Value}
 use Rattle.runner.specs.declared.inputs.Inputs.{Inputs}
 
 abbrev pub given : Inputs → List Value

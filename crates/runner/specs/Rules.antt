@@ -8,7 +8,7 @@ use lib.IntN.{pos}
 use Rattle.std.specs.declared.option.Option.{Option}
 use Rattle.std.specs.declared.option.Option.the-variants.{Some, None}
 use Rattle.std.specs.shelf.Maps.{nth}
-use Rattle.memories.specs.declared.Value.{Value}
+use Rattle.memories.specs.declared.value.Value.{Value}
 use Rattle.check.specs.declared.node.Node.{Node}
 use Rattle.check.specs.declared.note.Note.{Note}
 use Rattle.runner.specs.declared.frame.Frame.{Frame}

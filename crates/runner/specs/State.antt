@@ -2,7 +2,7 @@
 use mathlib.Core.List.{List}
 use Prim.Native.Nat.{ℕ}
 use Rattle.std.specs.declared.option.Option.{Option}
-use Rattle.memories.specs.declared.Value.{Value}
+use Rattle.memories.specs.declared.value.Value.{Value}
 use Rattle.runner.specs.declared.frame.Frame.{Frame}
 use Rattle.runner.specs.declared.verdict.Verdict.{Verdict}
 use Rattle.runner.specs.declared.machine.Machine.{Machine}

@@ -4,9 +4,6 @@ ghost use mathlib.Core.Bool.{true};
 ghost use Rattle.runner.specs.Newest.{held, room};
 ghost use Rattle.runner.specs.State.{coreOf};
 ghost use Rattle.runner.specs.Rules.{Follows, begins, beginNode, beginPut};
-use check::node::Node;
-use check::note::Note;
-use memories::Value;
 use crate::frame::Frame;
 use crate::frame::Signal;
 use crate::machine::Machine;
@@ -17,6 +14,9 @@ use crate::print::print_newline;
 use crate::table::item_at;
 use crate::trap::Trap;
 use crate::verdict::Verdict;
+use check::node::Node;
+use check::note::Note;
+use memories::Value;
 
 // Begins the node `machine.next`; what it hands down at once, if it does.
 pub fn begin(machine: &mut Machine, table: &[Node], notes: &[Note]) -> Option<Signal>

@@ -2,12 +2,12 @@
 ghost use mathlib.Core.Path.{_≡_};
 ghost use Rattle.std.specs.Results.{Cases};
 ghost use Rattle.runner.specs.Calls.{Advanced};
-use check::node::Node;
-use check::note::Note;
-use memories::Memory;
 use crate::refusal::GrantRefusal;
 use crate::session::Session;
 use crate::step::walk;
+use check::node::Node;
+use check::note::Note;
+use memories::Memory;
 
 // The most steps of one grant.
 const GRANT: u32 = 1_000_000;
@@ -35,12 +35,5 @@ pub fn advance<M: Memory>(
         return Err(GrantRefusal::TooManySteps);
     }
     let limit = session.limit;
-    Ok(walk(
-        &mut session.course,
-        table,
-        notes,
-        memory,
-        limit,
-        grant,
-    ))
+    Ok(walk(&mut session.course, table, notes, memory, limit, grant))
 }

@@ -7,6 +7,11 @@ ghost use Rattle.std.specs.declared.result.Result.the-variants.{Err};
 ghost use Rattle.std.specs.Results.{Cases};
 ghost use Rattle.check.specs.Notes.{cleared};
 ghost use Rattle.runner.specs.Calls.{mainBody, limitFits, AtStart, Opened};
+use crate::lawful::are_acceptable;
+use crate::refusal::OpenRefusal;
+use crate::refusal::OpenRefusalFromRefusal;
+use crate::session::Session;
+use crate::verdict::Verdict;
 use check::check_table;
 use check::clear_notes;
 use check::node::Node;
@@ -15,11 +20,6 @@ use check::shelf::Name;
 use check::shelf::Shelf;
 use memories::Memory;
 use memories::Value;
-use crate::lawful::are_acceptable;
-use crate::refusal::OpenRefusal;
-use crate::refusal::OpenRefusalFromRefusal;
-use crate::session::Session;
-use crate::verdict::Verdict;
 
 // The most cells of a script.
 const CELLS: usize = 65_535;

@@ -1,9 +1,7 @@
 // Why a call is refused.
 ghost use mathlib.Core.Path.{_≡_};
 ghost use Rattle.runner.specs.declared.refusal.OpenRefusal.the-variants.{Check};
-ghost use Rattle.check.specs.Questions.{questionNumber};
 ghost use Rattle.runner.specs.Refusals.{openNumber, openNode, openLine, grantNumber};
-use check::refusal::Question;
 use check::refusal::Refusal;
 
 // Why a session is not opened. Each case has a number that hosts know it by.
@@ -25,32 +23,13 @@ pub impl From<Refusal> for OpenRefusal as OpenRefusalFromRefusal {
     }
 }
 
-// The numbers of the check's questions.
-fn question_number(question: Question) -> u8
-    ensures { λ r. ⌜ r ≡ questionNumber question ⌝ }
-{
-    match question {
-        Question::TableSize => 1,
-        Question::NodeForm => 2,
-        Question::LinkedOnce => 3,
-        Question::Depth => 4,
-        Question::NewName => 5,
-        Question::InScope => 9,
-        Question::ArgumentCount => 11,
-        Question::WantedType => 12,
-        Question::MainForm => 18,
-        Question::NotMain => 19,
-        Question::ShelfRoom => 20,
-    }
-}
-
 impl OpenRefusal {
     // The number that hosts know it by.
     pub fn number(self) -> u8
         ensures { λ r. ⌜ r ≡ openNumber self ⌝ }
     {
         match self {
-            OpenRefusal::Check(refusal) => question_number(refusal.question),
+            OpenRefusal::Check(refusal) => refusal.question.number(),
             OpenRefusal::CellLimit => 31,
             OpenRefusal::Inputs => 32,
         }

@@ -4,7 +4,6 @@ ghost use mathlib.Core.Bool.{true};
 ghost use Rattle.runner.specs.Newest.{held, room};
 ghost use Rattle.runner.specs.State.{coreOf};
 ghost use Rattle.runner.specs.Rules.{Follows, resumes, inBlock, inCall};
-use check::node::Node;
 use crate::frame::Frame;
 use crate::frame::Signal;
 use crate::machine::Machine;
@@ -14,6 +13,7 @@ use crate::machine::wait;
 use crate::print::print_int;
 use crate::print::print_int_line;
 use crate::table::item_at;
+use check::node::Node;
 
 // Hands `signal` to `frame`, which is taken off; what it hands down in turn, if it does.
 pub fn resume(machine: &mut Machine, table: &[Node], signal: Signal, frame: Frame) -> Option<Signal>

@@ -5,9 +5,6 @@ ghost use lib.ListN.{take, drop};
 ghost use Rattle.runner.specs.Newest.{held};
 ghost use Rattle.runner.specs.State.{scene, view};
 ghost use Rattle.runner.specs.Run.{settles, played, stepped, ran, running, stepsTaken};
-use check::node::Node;
-use check::note::Note;
-use memories::Memory;
 use crate::begin::begin;
 use crate::frame::Signal;
 use crate::machine::Course;
@@ -15,6 +12,9 @@ use crate::machine::Machine;
 use crate::machine::finish;
 use crate::resume::resume;
 use crate::verdict::Verdict;
+use check::node::Node;
+use check::note::Note;
+use memories::Memory;
 
 // Hands `first` down, frame after frame, until a node is to begin or the script is over.
 fn settle<M: Memory>(

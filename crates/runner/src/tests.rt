@@ -1,4 +1,7 @@
-use std::test::*;
+use crate::advance;
+use crate::open;
+use crate::refusal::GrantRefusal;
+use crate::session::Session;
 use check::node::Node;
 use check::note::Note;
 use check::shelf::Name;
@@ -6,10 +9,7 @@ use check::shelf::Shelf;
 use memories::CellRecords;
 use memories::RecordsMemory;
 use memories::Value;
-use crate::advance;
-use crate::open;
-use crate::refusal::GrantRefusal;
-use crate::session::Session;
+use std::test::*;
 
 fn node(kind: u8, value: u32, a: u16, b: u16) -> Node {
     Node {
@@ -53,7 +53,16 @@ fn opened(table: &[Node], notes: &mut [Note], memory: &mut CellRecords) -> Resul
         name: 0,
         declaration: 0,
     }; 512];
-    check(open(&mut session, table, notes, &mut shelf, &mut names, memory, &[], 2).is_ok())?;
+    check(open(
+        &mut session,
+        table,
+        notes,
+        &mut shelf,
+        &mut names,
+        memory,
+        &[],
+        2,
+    ).is_ok())?;
     Ok(session)
 }
 
@@ -106,8 +115,17 @@ fn grants_are_refused() -> Result<(), Fail> {
     let mut cells = [Value { ty: 0, word: 0 }; 4];
     let mut memory = CellRecords::new(&mut cells);
     let mut new = Session::new();
-    check_eq(number(advance(&mut new, &table, &notes, &mut memory, 0)), 40)?;
+    check_eq(
+        number(advance(&mut new, &table, &notes, &mut memory, 0)),
+        40,
+    )?;
     let mut session = opened(&table, &mut notes, &mut memory)?;
-    check_eq(number(advance(&mut session, &table, &notes, &mut memory, 1_000_001)), 41)?;
-    check_eq(number(advance(&mut session, &table, &notes, &mut memory, 1_000_000)), 0)
+    check_eq(
+        number(advance(&mut session, &table, &notes, &mut memory, 1_000_001)),
+        41,
+    )?;
+    check_eq(
+        number(advance(&mut session, &table, &notes, &mut memory, 1_000_000)),
+        0,
+    )
 }

@@ -3,8 +3,8 @@ ghost use mathlib.Core.List.{[]};
 ghost use Prim.Native.Nat.{_≤_};
 ghost use lib.ListN.{length};
 ghost use Rattle.runner.specs.Given.{given};
-use memories::Value;
 use crate::inputs::Inputs;
+use memories::Value;
 
 impl Inputs {
     pub fn new() -> Inputs
