@@ -42,7 +42,7 @@ put-beyond t n x notes nz w = drop-set-lt (length t) notes (n - 1) x (omega arit
 
 -- how a call is judged, once its arguments are typed
 judged : (scope : List Name) (n : ℕ) (d : Node) (out : Out (List Valued)) (x : Arguments) (notes : List Note) → after noArguments out ≡ Ok (x, notes)
-  → then out (λ (p : List Valued × List Note). withNotes (p .1) (callOf n d (means scope (d .value)) (length (p .0)) (firstUnfit (p .0))))
+    → then out (λ (p : List Valued × List Note). withNotes (p .1) (callOf n d (means scope (d .value)) (length (p .0)) (firstUnfit (p .0))))
     ≡ carries (callOf n d (means scope (d .value)) (x .count) (x .unfit)) notes
 judged scope n d (Ok p) x notes e =
     rw (count-is, unfit-is, notes-are) (carried (callOf n d (means scope (d .value)) (length (p .0)) (firstUnfit (p .0))))
@@ -73,7 +73,7 @@ call-judged {t} {scope} {n} {notes} {notes′} {x} {r} k h e =
 
 -- one argument more
 one-more : (s : Arguments) (x : Valued) (unfit : Option Valued) (out : Out (List Valued)) → unfit ≡ earlier (s .unfit) (cond (isInt (x .ty)) None (Some x))
-  → after s (then out (λ (q : List Valued × List Note). Ok (x ∷ q .0, q .1))) ≡ after (record { count = s .count + 1; unfit = unfit }) out
+    → after s (then out (λ (q : List Valued × List Note). Ok (x ∷ q .0, q .1))) ≡ after (record { count = s .count + 1; unfit = unfit }) out
 one-more s x unfit (Err f) e = refl
 one-more s x unfit (Ok p) e =
     let k : s .count + suc (length (p .0)) ≡ s .count + 1 + length (p .0) = omega arith in
@@ -104,7 +104,7 @@ module _ {t : List Node} {scope : List Name} {first n : ℕ} {notes notes₁ : L
       rw e (record { result = going .rest ∙ ap (after s) chain-at ∙ rw (h .result) refl; beyond = h .beyond ∙ going .beyond })
 
   pub chain-on : {notes₂ : List Note} {ty : Ty} {u : Note} {unfit : Option Valued} → Types t scope n notes₁ (Ok ty) notes₂ → u ≡ noteOf ty → unfit ≡ earlier (s .unfit) (cond (isInt ty) None (Some (valued n (nodeAt t n) ty)))
-    → Gathering t scope first notes (nodeAt t n .next) (record { count = s .count + 1; unfit = unfit }) (set notes₂ (n - 1) u)
+      → Gathering t scope first notes (nodeAt t n .next) (record { count = s .count + 1; unfit = unfit }) (set notes₂ (n - 1) u)
   chain-on {notes₂} {ty} {u} {unfit} h eu e =
       let less = less-next t linked n nz (going .within) in
       record {

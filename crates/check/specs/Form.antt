@@ -64,7 +64,7 @@ chainGrows t class zero n = true
 chainGrows t class (suc room) n =
     cond (eqb n 0) true
     (ofClass class (nodeAt t n .kind)
-     && cond (linkFits (length t) n (nodeAt t n .next)) (chainGrows t class room (nodeAt t n .next)) true)
+    && cond (linkFits (length t) n (nodeAt t n .next)) (chainGrows t class room (nodeAt t n .next)) true)
 
 unfoldable pub chainFits : List Node → Class → ℕ → Bool
 chainFits t class n = chainGrows t class (suc (length t) - n) n

@@ -49,8 +49,8 @@ abbrev pub enter : List Name → ℕ → Node → Result (List Name) Refusal
 enter scope n d =
     cond (isSome (means scope (d .value))) (refuse NewName n (d .line))
     (cond (ltb (length scope) 512)
-     (cond (mainForm d) (Ok (declared n d ∷ scope)) (refuse MainForm n (d .line)))
-     (refuse ShelfRoom n (d .line)))
+    (cond (mainForm d) (Ok (declared n d ∷ scope)) (refuse MainForm n (d .line)))
+    (refuse ShelfRoom n (d .line)))
 
 -- A function is entered, then its body is walked with it in scope; the body's own names are off again after it.
 abbrev pub function : List Name → ℕ → Node → Tree → List Note → Out (List Name)

@@ -87,8 +87,8 @@ abbrev pub typeAt : List Name → ℕ → Node → (List Note → Out (List Valu
 typeAt scope n d arguments notes =
     cond (eqb (d .kind) 20) (Ok (Int, notes))
     (cond (eqb (d .kind) 25)
-     (then (arguments notes) (λ p. withNotes (p .1) (callOf n d (means scope (d .value)) (length (p .0)) (firstUnfit (p .0)))))
-     (refuse NodeForm n (d .line)))
+    (then (arguments notes) (λ p. withNotes (p .1) (callOf n d (means scope (d .value)) (length (p .0)) (firstUnfit (p .0)))))
+    (refuse NodeForm n (d .line)))
 
 -- A chain of expressions: each has its type and its note, one after the other.
 abbrev pub values : List Name → Tree → List Note → Out (List Valued)

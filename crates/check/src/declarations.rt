@@ -19,6 +19,7 @@ ghost use Rattle.check.specs.Tree.{Linked, tree, nodeAt};
 ghost use Rattle.check.specs.Judge.{enter, function, declarations, program, leaves, Enters, Declares};
 
 const MAIN: u32 = 10;
+
 const BUILT_INS: usize = 9;
 
 // Puts the names that every script has on an empty shelf.

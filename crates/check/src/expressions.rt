@@ -64,7 +64,12 @@ fn first_unfit(before: Option<Valued>, argument: Valued) -> Option<Valued>
 }
 
 // A call is judged once its arguments have their types.
-fn judge_call(at: u16, node: Node, meaning: Option<Name>, arguments: Arguments) -> Result<Ty, Refusal>
+fn judge_call(
+    at: u16,
+    node: Node,
+    meaning: Option<Name>,
+    arguments: Arguments,
+) -> Result<Ty, Refusal>
     ensures { λ r. ⌜ r ≡ callOf at node meaning (arguments .count) (arguments .unfit) ⌝ }
 {
     let line = node.line;

@@ -20,6 +20,7 @@ ghost use Rattle.check.specs.Tree.{blank, nodeAt, Linked, tree};
 ghost use Rattle.check.specs.Form.{chainFits, oneFits, childFits, shapeFits, nodeFits, askEach, hit, timesLinked, linkedOnce, lower, lowestDeep, shallow, askSize, formed};
 
 const DEEPEST: u8 = 200;
+
 const MOST_NODES: usize = 4096;
 
 // Is every item of the chain of this class, as far as the links between them

@@ -4,13 +4,13 @@ pub mod check;
 mod declarations;
 mod expressions;
 mod form;
-mod statements;
 pub mod node;
 pub mod note;
 pub mod refusal;
 pub mod search;
 mod shape;
 pub mod shelf;
+mod statements;
 pub mod types;
 
 pub use check::check_table;

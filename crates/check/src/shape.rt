@@ -70,7 +70,11 @@ pub(crate) fn shape_of(kind: u8) -> Option<Shape>
     ensures { λ r. ⌜ r ≡ shapeOf kind ⌝ }
 {
     match kind {
-        1 => Some(untyped(Content::Nothing, Child::Chain(Class::Declaration), Child::Absent)),
+        1 => Some(untyped(
+            Content::Nothing,
+            Child::Chain(Class::Declaration),
+            Child::Absent,
+        )),
         2 => Some(Shape {
             typed: true,
             content: Content::MainName,
@@ -78,10 +82,22 @@ pub(crate) fn shape_of(kind: u8) -> Option<Shape>
             b: Child::One(Class::Block),
             c: Child::Absent,
         }),
-        10 => Some(untyped(Content::Nothing, Child::Absent, Child::Chain(Class::Statement))),
-        18 => Some(untyped(Content::Nothing, Child::Optional(Class::Expression), Child::Absent)),
+        10 => Some(untyped(
+            Content::Nothing,
+            Child::Absent,
+            Child::Chain(Class::Statement),
+        )),
+        18 => Some(untyped(
+            Content::Nothing,
+            Child::Optional(Class::Expression),
+            Child::Absent,
+        )),
         20 => Some(untyped(Content::IntLiteral, Child::Absent, Child::Absent)),
-        25 => Some(untyped(Content::CalledName, Child::Chain(Class::Expression), Child::Absent)),
+        25 => Some(untyped(
+            Content::CalledName,
+            Child::Chain(Class::Expression),
+            Child::Absent,
+        )),
         _ => None,
     }
 }

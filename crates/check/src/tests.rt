@@ -54,11 +54,13 @@ fn ask(table: &[Node], notes: &mut [Note; 8]) -> Seen {
             node: 0,
             line: 0,
         },
-        Err(Refusal {
-            question,
-            node,
-            line,
-        }) => Seen {
+        Err(
+            Refusal {
+                question,
+                node,
+                line,
+            },
+        ) => Seen {
             question: question.number(),
             node,
             line,

@@ -43,11 +43,11 @@ module _ (m : SheetMeaning) (t : List Node) (ins : List Value) (size : ℕ) (not
   play-refused r e s a b = rw b (record { answer = a ∙ answers; after = λ x. absurd (false≢true x) })
 
   pub play-done : (u : Unit {0}) (notes′ : List Note) (s₁ s₂ : Session) (cells₁ cells₂ : List Cell)
-    → Ok u ≡ openAnswer (record { script = t; inputs = ins; limit = m .cells }) size (checked t notes)
-    → notes′ ≡ openNotes (record { script = t; inputs = ins; limit = m .cells }) notes (Ok u)
-    → seen s₁ cells₁ ≡ start (record { script = t; inputs = ins; limit = m .cells })
-    → seen s₂ cells₂ ≡ ran t notes′ (m .steps) (seen s₁ cells₁)
-    → Plays m (Ok tt) s₂
+      → Ok u ≡ openAnswer (record { script = t; inputs = ins; limit = m .cells }) size (checked t notes)
+      → notes′ ≡ openNotes (record { script = t; inputs = ins; limit = m .cells }) notes (Ok u)
+      → seen s₁ cells₁ ≡ start (record { script = t; inputs = ins; limit = m .cells })
+      → seen s₂ cells₂ ≡ ran t notes′ (m .steps) (seen s₁ cells₁)
+      → Plays m (Ok tt) s₂
   play-done u notes′ s₁ s₂ cells₁ cells₂ a n b e =
       let noted : notes′ ≡ scriptNotes (m .table) = n ∙ rw (table, blank) refl in
       let from : seen s₁ cells₁ ≡ start (openingOf m) = b ∙ rw table refl in

@@ -71,19 +71,17 @@ const UNNOTED: Note = Note {
     turned: false,
     declaration: 0,
 };
+
 const UNNAMED: Name = Name {
     name: 0,
     declaration: 0,
 };
+
 const UNSET: Value = Value { ty: 0, word: 0 };
 
 // Opens the sheet's script over a memory of 4,096 cells and grants it the
 // sheet's steps.
-fn play<M: Memory>(
-    sheet: &Sheet,
-    session: &mut Session,
-    memory: &mut M,
-) -> Result<(), OpenRefusal>
+fn play<M: Memory>(sheet: &Sheet, session: &mut Session, memory: &mut M) -> Result<(), OpenRefusal>
     requires few { ⌜ now sheet .steps ≤ 1_099_511_627_776 ⌝ }
     requires size { ⌜ length (M·Memory .cells (now memory)) ≡ 4096 ⌝ }
     ensures { λ r. ⌜ Plays (meant (now (sheet .entry))) r (now (session .exit)) ⌝ }
@@ -95,7 +93,14 @@ fn play<M: Memory>(
     let inputs = sheet.inputs();
     let limit = sheet.cells as usize;
     open(
-        session, table, &mut notes, &mut shelf, &mut names, memory, inputs, limit,
+        session,
+        table,
+        &mut notes,
+        &mut shelf,
+        &mut names,
+        memory,
+        inputs,
+        limit,
     )?;
     spend(session, table, &notes, memory, sheet.steps);
     Ok(())

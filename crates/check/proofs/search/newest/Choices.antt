@@ -8,7 +8,7 @@ abbrev pub Inv-loop-i : given.InvT-loop-i
 Inv-loop-i g l =
     (l .i ≤ length (l .entries))
     × (find (g .E·Keyed .key) (newestFirst (l .entries) (l .count)) (l .key)
-       ≡ find (g .E·Keyed .key) (newestFirst (l .entries) (l .i)) (l .key))
+    ≡ find (g .E·Keyed .key) (newestFirst (l .entries) (l .i)) (l .key))
 
 abbrev pub μ-loop-i : given.MeasureT-loop-i
 μ-loop-i g l = l .i
