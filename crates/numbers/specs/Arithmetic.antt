@@ -1,7 +1,7 @@
 -- What the two kinds of number and their operators mean: integers by ℤ, wrapped to 32 bits, and floats by IEEE 754's binary32.
 use Prim.Native.Nat.{ℕ}
-use mathlib.Core.Bool.{Bool, false, cond, not, _||_, _&&_}
-use lib.Dec.{eqb, leb}
+use mathlib.Core.Bool.{Bool, false, cond, not, _||_}
+use lib.Dec.{eqb}
 use lib.IntN.{ℤ, pos, negsuc, negℤ, _+ℤ_, _-ℤ_, _*ℤ_}
 use lib.Signed.{ltZ, quotZ}
 use lib.Ieee as Ieee
@@ -10,17 +10,16 @@ use mir.Syntax.{w32}
 use mir.Val.{toZ, ofZ}
 use Rattle.std.specs.declared.option.Option.{Option}
 use Rattle.std.specs.declared.option.Option.the-variants.{Some, None}
-use Rattle.std.specs.declared.result.Result.{Result}
-use Rattle.std.specs.declared.result.Result.the-variants.{Ok, Err}
 use Rattle.std.specs.shelf.Signed.{wrapped}
-use Rattle.numbers.specs.declared.value.Value.{Value}
-use Rattle.numbers.specs.Conversion.{nearestFloat}
-use Rattle.numbers.specs.Truth.{truth}
+use Rattle.numbers.specs.declared.operator.Calculation.{Calculation}
+use Rattle.numbers.specs.declared.operator.Calculation.the-variants.{Add, Subtract, Multiply, Divide}
+use Rattle.numbers.specs.declared.operator.Comparison.{Comparison}
+use Rattle.numbers.specs.declared.operator.Comparison.the-variants.{Equal, NotEqual, Less, LessOrEqual, Greater, GreaterOrEqual}
 
--- A kind of number: the type number of its values, the word of its zero, what a word stands for and which word is stored, and the operators.
+-- A kind of number: the type of its values, the word of its zero, what a word stands for and which word is stored, and the operators.
 -- A quotient may be missing.
 pub record Arithmetic (N : Type 0) : Type 0 where
-  pub kind : ℕ
+  pub code : ℕ
   pub zero : ℕ
   pub value : ℕ → N
   pub bits : N → ℕ
@@ -32,6 +31,7 @@ pub record Arithmetic (N : Type 0) : Type 0 where
   pub equal : N → N → Bool
   pub less : N → N → Bool
 
+-- two integers are the same
 abbrev pub eqZ : ℤ → ℤ → Bool
 eqZ (pos a) (pos b) = eqb a b
 eqZ (pos a) (negsuc b) = false
@@ -41,7 +41,7 @@ eqZ (negsuc a) (negsuc b) = eqb a b
 -- Integers of 32 bits in two's complement. Results wrap, a quotient is cut toward zero, and there is none by zero.
 abbrev pub ints : Arithmetic ℤ
 ints = record {
-  kind = 2;
+  code = 2;
   zero = 0;
   value = toZ w32;
   bits = ofZ w32;
@@ -57,7 +57,7 @@ ints = record {
 -- IEEE 754's single floats. The word of every NaN is 0x7FC00000.
 abbrev pub floats : Arithmetic Float
 floats = record {
-  kind = 3;
+  code = 3;
   zero = 0;
   value = Ieee.ofBits binary32;
   bits = Ieee.toBits binary32;
@@ -70,37 +70,18 @@ floats = record {
   less = Ieee.lt;
 }
 
--- 29 ==, 30 !=, 31 <, 32 <=, 33 >, 34 >=
-abbrev pub compared : {N : Type 0} → Arithmetic N → ℕ → N → N → Bool
-compared n op x y =
-    cond (eqb op 29) (n .equal x y)
-    (cond (eqb op 30) (not (n .equal x y))
-    (cond (eqb op 31) (n .less x y)
-    (cond (eqb op 32) (n .less x y || n .equal x y)
-    (cond (eqb op 33) (n .less y x) (n .less y x || n .equal y x)))))
+-- == != < <= > >=
+abbrev pub compared : {N : Type 0} → Arithmetic N → Comparison → N → N → Bool
+compared n Equal x y = n .equal x y
+compared n NotEqual x y = not (n .equal x y)
+compared n Less x y = n .less x y
+compared n LessOrEqual x y = n .less x y || n .equal x y
+compared n Greater x y = n .less y x
+compared n GreaterOrEqual x y = n .less y x || n .equal y x
 
--- 35 +, 36 -, 37 *, 38 /
-abbrev pub calculated : {N : Type 0} → Arithmetic N → ℕ → N → N → Option N
-calculated n op x y =
-    cond (eqb op 35) (Some (n .sum x y))
-    (cond (eqb op 36) (Some (n .difference x y))
-    (cond (eqb op 37) (Some (n .product x y)) (n .quotient x y)))
-
--- the value of a result, or the trap 1 where there is none
-abbrev pub outcome : {N : Type 0} → Arithmetic N → Option N → Result Value ℕ
-outcome n (Some x) = Ok (record { ty = n .kind; word = n .bits x })
-outcome n None = Err 1
-
--- An operator on two words. A comparison, up to 34, makes a boolean.
-abbrev pub operated : {N : Type 0} → Arithmetic N → ℕ → ℕ → ℕ → Result Value ℕ
-operated n op a b =
-    cond (leb op 34) (Ok (record { ty = 1; word = truth (compared n op (n .value a) (n .value b)) }))
-    (outcome n (calculated n op (n .value a) (n .value b)))
-
--- An operator on two values: two ints, or two floats, or one of each, where the int becomes the nearest float. Anything else is refused by the trap 2.
-abbrev pub applied : ℕ → Value → Value → Result Value ℕ
-applied op a b =
-    cond (eqb (a .ty) 2 && eqb (b .ty) 2) (operated ints op (a .word) (b .word))
-    (cond (eqb (a .ty) 3 && eqb (b .ty) 3) (operated floats op (a .word) (b .word))
-    (cond (eqb (a .ty) 2 && eqb (b .ty) 3) (operated floats op (nearestFloat (a .word)) (b .word))
-    (cond (eqb (a .ty) 3 && eqb (b .ty) 2) (operated floats op (a .word) (nearestFloat (b .word))) (Err 2))))
+-- + - * /
+abbrev pub calculated : {N : Type 0} → Arithmetic N → Calculation → N → N → Option N
+calculated n Add x y = Some (n .sum x y)
+calculated n Subtract x y = Some (n .difference x y)
+calculated n Multiply x y = Some (n .product x y)
+calculated n Divide x y = n .quotient x y

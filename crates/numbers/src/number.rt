@@ -1,25 +1,22 @@
-// The two kinds of number, and one text of the operators for both.
-use crate::value::Value;
+// The two kinds of number.
 use std::num::f32_from_bits_with_nan;
 use std::num::f32_to_bits_with_nan;
 ghost use mathlib.Core.Path.{_≡_};
-ghost use Prim.Native.Nat.{ℕ, _+_, _^_, _<_, _≤_};
-ghost use Rattle.numbers.specs.Arithmetic.{Arithmetic, ints, floats, compared, calculated, operated, outcome};
-ghost use Rattle.numbers.specs.Truth.{truth};
+ghost use Rattle.numbers.specs.Arithmetic.{Arithmetic, ints, floats};
 
-/// A kind of number. `meaning` says what its words and its operators are.
+// A kind of number. `meaning` says what its words and its operators are.
 pub trait Number: Copy {
+    // the type of its values, and the word of its zero
+    const TYPE: u8;
+    const ZERO: u32;
+
     ghost meaning: { Arithmetic Self };
 
-    /// A word that is stored again stands for the same number.
-    law kept: { (w : ℕ) → w < 2 ^ 32 → meaning .value (meaning .bits (meaning .value w)) ≡ meaning .value w };
+    // The constants again, since a clause over every kind can cite a method's answer alone.
+    fn type_code() -> u8
+        ensures { λ r. ⌜ r ≡ meaning .code ⌝ };
 
-    /// The type number of a value of this kind.
-    fn kind() -> u8
-        ensures { λ r. ⌜ r ≡ meaning .kind ⌝ };
-
-    /// The word of a variable that is not set.
-    fn zero() -> u32
+    fn zero_bits() -> u32
         ensures { λ r. ⌜ r ≡ meaning .zero ⌝ };
 
     fn of_word(word: u32) -> Self
@@ -37,7 +34,7 @@ pub trait Number: Copy {
     fn times(self, other: Self) -> Self
         ensures { λ r. ⌜ r ≡ meaning .product self other ⌝ };
 
-    /// `None` where there is no quotient: an int by zero.
+    // `None` where there is no quotient: an int over zero.
     fn over(self, other: Self) -> Option<Self>
         ensures { λ r. ⌜ r ≡ meaning .quotient self other ⌝ };
 
@@ -52,14 +49,17 @@ pub trait Number: Copy {
 }
 
 pub impl Number for i32 as IntNumber {
+    const TYPE: u8 = 2;
+    const ZERO: u32 = 0;
+
     ghost meaning = { ints };
 
-    fn kind() -> u8 {
-        2
+    fn type_code() -> u8 {
+        Self::TYPE
     }
 
-    fn zero() -> u32 {
-        0
+    fn zero_bits() -> u32 {
+        Self::ZERO
     }
 
     fn of_word(word: u32) -> i32 {
@@ -104,14 +104,17 @@ pub impl Number for i32 as IntNumber {
 }
 
 pub impl Number for f32 as FloatNumber {
+    const TYPE: u8 = 3;
+    const ZERO: u32 = 0;
+
     ghost meaning = { floats };
 
-    fn kind() -> u8 {
-        3
+    fn type_code() -> u8 {
+        Self::TYPE
     }
 
-    fn zero() -> u32 {
-        0
+    fn zero_bits() -> u32 {
+        Self::ZERO
     }
 
     fn of_word(word: u32) -> f32 {
@@ -149,65 +152,4 @@ pub impl Number for f32 as FloatNumber {
     fn less(self, other: f32) -> bool {
         self < other
     }
-}
-
-/// A comparison, by the operator's kind: 29 `==`, 30 `!=`, 31 `<`, 32 `<=`, 33 `>`, 34 `>=`.
-pub fn compare<N: Number>(op: u8, left: N, right: N) -> bool
-    requires { ⌜ (29 ≤ op) × (op ≤ 34) ⌝ }
-    ensures { λ r. ⌜ r ≡ compared (N·Number .meaning) op left right ⌝ }
-{
-    match op {
-        29 => left.equals(right),
-        30 => !left.equals(right),
-        31 => left.less(right),
-        32 => left.less(right) || left.equals(right),
-        33 => right.less(left),
-        _ => right.less(left) || right.equals(left),
-    }
-}
-
-/// An operation, by the operator's kind: 35 `+`, 36 `-`, 37 `*`, 38 `/`.
-pub fn calculate<N: Number>(op: u8, left: N, right: N) -> Option<N>
-    requires { ⌜ (35 ≤ op) × (op ≤ 38) ⌝ }
-    ensures { λ r. ⌜ r ≡ calculated (N·Number .meaning) op left right ⌝ }
-{
-    match op {
-        35 => Some(left.plus(right)),
-        36 => Some(left.minus(right)),
-        37 => Some(left.times(right)),
-        _ => left.over(right),
-    }
-}
-
-/// An operator on the words of two values of the kind `N`, or the trap 1 where there is no quotient.
-pub fn operate<N: Number>(op: u8, left: Value, right: Value) -> Result<Value, u8>
-    requires { ⌜ (29 ≤ op) × (op ≤ 38) ⌝ }
-    ensures { λ r. ⌜ r ≡ operated (N·Number .meaning) op (left .word) (right .word) ⌝ }
-{
-    let a = N::of_word(left.word);
-    let b = N::of_word(right.word);
-    match op {
-        29..=34 => {
-            let holds = compare(op, a, b);
-            Ok(Value {
-                ty: 1,
-                word: if holds { 1 } else { 0 },
-            })
-        }
-        _ => match calculate(op, a, b) {
-            Some(result) => Ok(Value {
-                ty: N::kind(),
-                word: result.word(),
-            }),
-            None => Err(1),
-        },
-    }
-}
-
-/// The word that is stored for `word`: itself, but for the NaNs, which have one.
-pub fn stored<N: Number>(word: u32) -> u32
-    ensures value { λ r. ⌜ r ≡ N·Number .meaning .bits (N·Number .meaning .value word) ⌝ }
-    ensures same { λ r. ⌜ N·Number .meaning .value r ≡ N·Number .meaning .value word ⌝ }
-{
-    N::of_word(word).word()
 }

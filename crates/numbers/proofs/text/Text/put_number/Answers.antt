@@ -6,22 +6,18 @@ use Rattle.numbers.proofs.Figures.{longer, onto, last-length, last-onto}
 use Rattle.numbers.specs.Shown.{shown}
 use Rattle.numbers.proofs.text.Text.put_number.Needs as need
 
--- src/text.rt:41:13
 pub put-requires : need.put-requires
 put-requires c κs = search (needs, decimal-some)
 
--- src/text.rt:40:9
 pub loop-rest-again : need.loop-rest-again
 loop-rest-again c =
     let l = longer (c .loop-rest .rest) (omega arith) (omega arith) in
     let o = onto (c .loop-rest .rest) (shown (c .loop-rest .self)) (omega arith) (omega arith) in
-    (cc, omega arith, omega arith, omega arith, omega arith)
+    (cc, omega arith, omega arith, omega arith)
 
--- src/text.rt:44:9
 pub put-requires-2 : need.put-requires-2
 put-requires-2 c κs = search (needs, decimal-some)
 
--- src/text.rt:34:5
 pub returns : need.returns
 returns c =
     let l = last-length (c .loop-rest .rest) (omega arith) in

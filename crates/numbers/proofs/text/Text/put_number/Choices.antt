@@ -12,7 +12,6 @@ Inv-loop-rest l =
     (decimal (l .rest) ++ shown (l .self) ≡ decimal (l .entry .rest) ++ shown (l .entry .self))
     × (l .self .start + length (decimal (l .entry .rest)) ≡ l .entry .self .start + length (decimal (l .rest)))
     × (length (decimal (l .rest)) ≤ l .self .start)
-    × (l .self .start ≤ 16)
     × (l .rest < 2 ^ 64)
 
 abbrev pub μ-loop-rest : given.MeasureT-loop-rest

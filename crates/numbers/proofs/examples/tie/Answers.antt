@@ -1,9 +1,0 @@
-use mathlib.Core.Path.{refl}
-use lib.Ieee.{ofBits}
-use Rattle.std.specs.Written.{digits}
-use Rattle.numbers.specs.Printed.{textOf, thousandthsOf}
-use Rattle.numbers.proofs.examples.tie.Needs as need
-
-pub returns : need.returns
-unfolding ofBits textOf thousandthsOf digits
-returns c = (refl, c .print-float .ensures .text)
