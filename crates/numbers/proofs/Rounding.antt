@@ -82,12 +82,12 @@ nearest-alone a b m n h v w =
     elim (w .even m g) [
       | inl e ↦ e
       | inr y ↦ elim (v .even n (sym g)) [
-          | inl e ↦ sym e
-          | inr x ↦ elim (cases-order m n) [
-              | inl e ↦ e
-              | inr k ↦ elim k [ inl j ↦ absurd (apart a b m n h v g x y j) | inr j ↦ absurd (apart a b n m h w (sym g) y x j) ]
-            ]
+        | inl e ↦ sym e
+        | inr x ↦ elim (cases-order m n) [
+          | inl e ↦ e
+          | inr k ↦ elim k [ inl j ↦ absurd (apart a b m n h v g x y j) | inr j ↦ absurd (apart a b n m h w (sym g) y x j) ]
         ]
+      ]
     ]
 
 pub closest-alone : (a b : ℕ) → 0 < b → TheNearest a b (closest a b)

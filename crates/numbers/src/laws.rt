@@ -15,26 +15,22 @@ use crate::text::Text;
 // The printed thousandths are the whole number nearest to the float's; of two, the even one.
 pub fn thousandths_are_nearest()
     ensures { λ _. ⌜ ThousandthsAreNearest ⌝ }
-{
-}
+{}
 
 // An int that is printed and read is that int again.
 pub fn ints_read_back()
     ensures { λ _. ⌜ IntsReadBack ⌝ }
-{
-}
+{}
 
 // Every number has its own word, and what is not a number has one.
 pub fn floats_keep_their_words()
     ensures { λ _. ⌜ OneWordEach ⌝ }
-{
-}
+{}
 
 // What is not a number is unlike everything.
 pub fn nan_is_unlike_all()
     ensures { λ _. ⌜ NanIsUnlikeAll ⌝ }
-{
-}
+{}
 
 // -7 / 2, 16777219 as a float, and the text of 0.0625.
 #[derive(Clone, Copy)]

@@ -8,11 +8,12 @@ ghost use Rattle.numbers.specs.Arithmetic.{Arithmetic, ints, floats};
 pub trait Number: Copy {
     // the type of its values, and the word of its zero
     const TYPE: u8;
+
     const ZERO: u32;
 
     ghost meaning: { Arithmetic Self };
 
-    // The constants again, since a clause over every kind can cite a method's answer alone.
+    // The constants, for contracts over every kind: these can cite what a method answers alone.
     fn type_code() -> u8
         ensures { λ r. ⌜ r ≡ meaning .code ⌝ };
 
@@ -50,6 +51,7 @@ pub trait Number: Copy {
 
 pub impl Number for i32 as IntNumber {
     const TYPE: u8 = 2;
+
     const ZERO: u32 = 0;
 
     ghost meaning = { ints };
@@ -105,6 +107,7 @@ pub impl Number for i32 as IntNumber {
 
 pub impl Number for f32 as FloatNumber {
     const TYPE: u8 = 3;
+
     const ZERO: u32 = 0;
 
     ghost meaning = { floats };

@@ -8,7 +8,7 @@ ghost use lib.Ieee.Nearest.{closest};
 ghost use Rattle.numbers.specs.Printed.{thousandthsOf};
 
 // n / 2 ^ `times`, to the nearest whole number, a tie to the even one.
-pub fn halved(n: u64, times: u32) -> u64
+fn halved(n: u64, times: u32) -> u64
     requires { ⌜ (n < 2 ^ 40) × (times < 40) ⌝ }
     ensures { λ r. ⌜ r ≡ closest n (2 ^ times) ⌝ }
 {
@@ -25,7 +25,7 @@ pub fn halved(n: u64, times: u32) -> u64
 }
 
 // The finite float of `word` as m * 2 ^ k of the smallest, which is 2 ^ -149.
-pub fn parts(word: u32) -> (u64, u32)
+fn parts(word: u32) -> (u64, u32)
     requires { ⌜ word % 2 ^ 31 < 0x7F80_0000 ⌝ }
     ensures value { λ r. ⌜ HasValue (ofBits binary32 word) (leb (2 ^ 31) word) (r .0 * 2 ^ (r .1)) (2 ^ 149) ⌝ }
     ensures digits { λ r. ⌜ r .0 < 2 ^ 24 ⌝ }
@@ -42,7 +42,7 @@ pub fn parts(word: u32) -> (u64, u32)
 }
 
 // The size of the float of `word`, which is below 2 ^ 31, in thousandths, a tie to the even one.
-pub fn thousandths(word: u32) -> u64
+pub(crate) fn thousandths(word: u32) -> u64
     requires { ⌜ word % 2 ^ 31 < 0x4F00_0000 ⌝ }
     ensures value { λ r. ⌜ r ≡ thousandthsOf (ofBits binary32 word) ⌝ }
     ensures bound { λ r. ⌜ r < 2 ^ 41 ⌝ }
