@@ -1,5 +1,4 @@
 mod Held
-mod Figures
 mod Appended
 mod Below
 mod Items

@@ -2,7 +2,6 @@ pub mod Newest
 pub mod Printed
 pub mod Written
 pub mod Given
-pub mod Shown
 pub mod Verdicts
 pub mod State
 pub mod Rules

@@ -1,19 +1,15 @@
 -- What is printed, and how much of it fits.
 use mathlib.Core.Bool.{Bool}
-use mathlib.Core.List.{List, [], _∷_, _++_}
+use mathlib.Core.List.{List, _++_}
 use Prim.Native.Nat.{ℕ, _+_}
 use lib.Dec.{leb}
 use lib.ListN.{length}
-use mir.Syntax.{w32}
-use mir.Val.{toZ}
-use Rattle.std.specs.Written.{signed}
-
--- the int of a word in decimal, with a minus where it is negative
-abbrev pub intText : ℕ → List ℕ
-intText word = signed (toZ w32 word)
+use Rattle.numbers.specs.declared.text.Ending.the-variants.{Newline}
+use Rattle.numbers.specs.Shown.{endingText}
+pub use Rattle.numbers.specs.Printed.{intText}
 
 abbrev pub newline : List ℕ
-newline = 10 ∷ []
+newline = endingText Newline
 
 -- a text and a newline
 abbrev pub lineOf : List ℕ → List ℕ

@@ -16,7 +16,6 @@ mod step;
 mod table;
 #[cfg(test)]
 mod tests;
-mod text;
 pub mod trap;
 pub mod verdict;
 

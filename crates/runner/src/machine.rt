@@ -1,18 +1,17 @@
 // The machine that steps work on, and how a rule can end.
 ghost use mathlib.Core.Path.{_≡_};
 ghost use mathlib.Core.Bool.{true};
-ghost use Prim.Native.Nat.{_≤_};
 ghost use Rattle.runner.specs.Newest.{held, room};
-ghost use Rattle.runner.specs.Shown.{shown};
+ghost use Rattle.numbers.specs.Shown.{shown};
 ghost use Rattle.runner.specs.State.{coreOf};
 ghost use Rattle.runner.specs.Rules.{Follows, noRule, awaits, put, bottom};
 use crate::frame::Frame;
 use crate::frame::Signal;
 use crate::output::Output;
 use crate::stack::Stack;
-use crate::text::Text;
 use crate::trap::Trap;
 use crate::verdict::Verdict;
+use numbers::Text;
 
 // What a rule may change, but the cells.
 #[derive(Drop)]
@@ -58,7 +57,6 @@ pub fn wait(machine: &mut Machine, frame: Frame, next: u16) -> Option<Signal>
 
 // Prints `text` for the call at the node `place`.
 pub fn print(machine: &mut Machine, place: u16, text: Text) -> Option<Signal>
-    requires { ⌜ text .start ≤ 16 ⌝ }
     ensures { λ r. ⌜ Follows (coreOf (now (machine .entry))) (put place (shown text) (coreOf (now (machine .entry)))) r (coreOf (now (machine .exit))) ⌝ }
 {
     if machine.output.append(text.as_bytes()) {

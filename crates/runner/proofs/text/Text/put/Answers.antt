@@ -1,6 +1,0 @@
-use borrow.Author.Needs.{needs}
-use Rattle.std.proofs.shelf.Lists.{drop-set}
-use Rattle.runner.proofs.text.Text.put.Needs as need
-
-pub returns : need.returns
-returns c = search (needs, drop-set)
