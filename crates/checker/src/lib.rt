@@ -1,5 +1,7 @@
 // Checks a script: a table of nodes is accepted exactly when it has the form
 // of a script and VC's rules give it types.
+#![tactic(auto)]
+
 pub mod check;
 mod declarations;
 mod expressions;

@@ -1,4 +1,6 @@
 // A job: a script with its inputs, read from a sheet, and the report of its run.
+#![tactic(auto)]
+
 mod cut;
 pub mod fault;
 mod fill;

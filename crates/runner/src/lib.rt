@@ -1,4 +1,6 @@
 // Runs a checked script step by step over a memory.
+#![tactic(auto)]
+
 mod begin;
 mod frame;
 pub mod granting;

@@ -1,4 +1,6 @@
 // The program: a job sheet on standard input, its report on standard output.
+#![tactic(auto)]
+
 use job::run::run;
 use std::io;
 use std::io::{Read, Write};
