@@ -11,5 +11,5 @@ pub returns : goal.returns
 returns c =
     let bytes = c.args.self.now.bytes.now in
     c.seen.ensures
-    ∙ ap (λ (w : ℕ). record_cell (record { ty = get_or bytes (5 * c.args.cell) 0; word = w })) c.from-be-bytes-word.ensures
+    ∙ ap (λ (w : ℕ). record_cell (record { ty = get_or bytes (5 * c.args.cell) 0; word = w })) c.from_be_bytes-word.ensures
     ∙ sym (read_bytes bytes c.args.cell c.if-cell-self.false)

@@ -6,7 +6,7 @@ use Rattle.memories.proofs.Fives.{length_bytes, put_bytes}
 use Rattle.memories.proofs.bytes.CellBytesMemory.write.Goals as goal
 use Rattle.memories.proofs.bytes.CellBytesMemory.write.Goals.{
   then-cell-self-via-then-cell-self,
-  then-cell-self-via-else-cell-self+then-not-is-type,
+  then-cell-self-via-else-cell-self+then-not-is_type,
 }
 
 pub returns-then-cell-self : goal.returns-then-cell-self
@@ -15,8 +15,8 @@ returns-then-cell-self c = record {
       elim c.then-cell-self.branch [
         | then-cell-self-via-then-cell-self w ↦
             writable_out _ _ _ c.args.value.ty (length_bytes _) w.if-cell-self.true
-        | then-cell-self-via-else-cell-self+then-not-is-type w ↦
-            writable_untyped (byte_cells c.args.self.now.bytes.now) c.args.cell c.args.value.ty (sym w.if-not-is-type.ensures)
+        | then-cell-self-via-else-cell-self+then-not-is_type w ↦
+            writable_untyped (byte_cells c.args.self.now.bytes.now) c.args.cell c.args.value.ty (sym w.if-not-is_type.ensures)
       ];
   after = refl;
   bytes = refl;
@@ -25,12 +25,12 @@ returns-then-cell-self c = record {
 
 pub returns : goal.returns
 returns c = record {
-  says = writable_yes _ _ _ c.args.value.ty (length_bytes _) c.if-cell-self.false c.if-not-is-type.ensures;
+  says = writable_yes _ _ _ c.args.value.ty (length_bytes _) c.if-cell-self.false c.if-not-is_type.ensures;
   after =
       ap byte_cells c.put.ensures.bytes
       ∙ put_bytes c.args.self.now.bytes.now c.args.cell c.args.value c.if-cell-self.false (omega arith)
       ∙ ap (set (byte_cells c.args.self.now.bytes.now) c.args.cell)
-      (typed_cell c.args.value (sym c.if-not-is-type.ensures));
+      (typed_cell c.args.value (sym c.if-not-is_type.ensures));
   bytes = c.put.ensures.bytes;
   lent = c.put.ensures.lent;
 }
