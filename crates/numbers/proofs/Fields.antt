@@ -1,7 +1,7 @@
 -- The fields of a float's word, and its size in thousandths.
-use Rattle.std.proofs.Common.{◌≡◌, ℕ, suc, ◌+◌, ◌-◌, ◌*◌, ◌/◌, ◌%◌, ◌^◌, ◌<◌, ◌≤◌, Bool, cond, T, eqb, leb, ℤ, sym, refl, ap, ◌∙◌, subst, le_trans, le_refl, le_of_lt, mul-le-mul_right, mul_assoc, add-sub_of_le, mul-le-mul, mul-one, sub-add_cancel, mul_right_comm, div-one, arith, pow_pos, pow_mono, pow-add}
+use Rattle.std.proofs.Common.{◌≡◌, ℕ, suc, ◌+◌, ◌-◌, ◌*◌, ◌/◌, ◌%◌, ◌^◌, ◌<◌, ◌≤◌, Bool, cond, eqb, leb, sym, ap, ◌∙◌, subst, le_of_lt, mul-le-mul_right, mul_assoc, add-sub_of_le, mul-le-mul, mul-one, sub-add_cancel, mul_right_comm, div-one, arith, pow_pos, pow_mono, pow-add}
 use native.Mathlib.Nat.{mod-one}
-use lib.Ieee.{Float, nan, inf, fin, binary32, up, down, of_fields, of_bits, odd, nearest}
+use lib.Ieee.{Float, nan, inf, fin, binary32, up, down, of_fields, of_bits, odd}
 use lib.Ieee.Exact.{HasValue, odd_sign}
 use lib.Ieee.Fits.{down_pos}
 use lib.Ieee.Nearest.{closest, closest_same, closest_mono}

@@ -1,5 +1,5 @@
 -- `closest` is the nearest whole number, a tie to the even one, and no other is.
-use Rattle.std.proofs.Common.{◌≡◌, ℕ, suc, ◌+◌, ◌-◌, ◌*◌, ◌/◌, ◌%◌, ◌<◌, ◌≤◌, ◌⊎◌, sym, refl, subst, inl, inr, mul-le-mul_right, mod-lt, suc-mul, div-add-mod', arith}
+use Rattle.std.proofs.Common.{◌≡◌, ℕ, suc, ◌+◌, ◌*◌, ◌/◌, ◌%◌, ◌<◌, ◌≤◌, sym, refl, subst, inl, inr, mul-le-mul_right, mod-lt, suc-mul, div-add-mod', arith}
 use Prim.Native.Nat.{compare, Ordering}
 use native.Mathlib.Omega.{compare-lt, compare-eq, compare-gt}
 use lib.Ieee.{nearest}

@@ -3,7 +3,6 @@ use Rattle.std.specs.Prelude.{ℕ, Bool, cond, not, Some, None, Option, ◌==◌
 use Rattle.std.specs.Bool.{beq}
 use Rattle.numbers.specs.declared.answer.Answer.{Answer}
 use Rattle.numbers.specs.declared.answer.Answer.TheVariants.{Gives, ZeroDivisor, NoRule}
-use Rattle.numbers.specs.declared.operator.Calculation.{Calculation}
 use Rattle.numbers.specs.declared.operator.Comparison.{Comparison}
 use Rattle.numbers.specs.declared.operator.Comparison.TheVariants.{Equal, NotEqual, Less, LessOrEqual, Greater, GreaterOrEqual}
 use Rattle.numbers.specs.declared.operator.Operator.{Operator}

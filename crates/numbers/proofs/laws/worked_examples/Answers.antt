@@ -10,6 +10,6 @@ unfolding of_bits of_int to_bits digits int_wrap text_of thousandths_of
 returns c = record {
   defined = record { cut = refl; lowest = refl; none = λ _. refl; turned = refl; tie = refl };
   quotient = c.apply.ensures;
-  turned = c.to-float.ensures;
-  text = c.print-float.ensures;
+  turned = c.to_float.ensures;
+  text = c.print_float.ensures;
 }

@@ -1,4 +1,4 @@
-use Rattle.std.proofs.Common.{arith, rules}
+use Rattle.std.proofs.Common.{arith}
 use Rattle.numbers.proofs.Fields.{no_field, with_field}
 use Rattle.numbers.proofs.thousandths.parts.Goals as goal
 

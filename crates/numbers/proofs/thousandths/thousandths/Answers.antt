@@ -1,7 +1,5 @@
-use Rattle.std.proofs.Common.{◌≡◌, ℕ, ◌-◌, ◌*◌, ◌^◌, ◌<◌, ◌≤◌, leb, sym, ◌∙◌, mod-eq_of_lt, arith, pow_pos}
+use Rattle.std.proofs.Common.{◌-◌, ◌*◌, ◌^◌, ◌<◌, leb, sym, ◌∙◌, mod-eq_of_lt, arith, pow_pos}
 use lib.Ieee.{binary32, of_bits}
-use lib.Ieee.Nearest.{closest}
-use Rattle.numbers.specs.Printed.{thousandths_of}
 use Rattle.numbers.proofs.Fields.{thousandths_are, thousandths_whole, thousandths_some, thousandths_none, thousandths_bound}
 use Rattle.numbers.proofs.thousandths.thousandths.Goals as goal
 

@@ -1,4 +1,4 @@
-use Rattle.std.proofs.Common.{◌≡◌, ℕ, List, ◌++◌, sym, ap, ◌∙◌, arith, rules}
+use Rattle.std.proofs.Common.{ℕ, List, ◌++◌, sym, ap, ◌∙◌, arith}
 use lib.Seq.{drop-length}
 use Rattle.numbers.proofs.Figures.{before}
 use Rattle.numbers.specs.Shown.{shown}

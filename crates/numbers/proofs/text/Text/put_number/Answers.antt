@@ -1,4 +1,4 @@
-use Rattle.std.proofs.Common.{◌≡◌, arith, rules}
+use Rattle.std.proofs.Common.{arith, rules}
 use Rattle.std.proofs.lemmas.Fmt.{decimal_nonempty}
 use Rattle.numbers.proofs.Figures.{longer, onto, last_length, last_onto}
 use Rattle.numbers.specs.Shown.{shown}
