@@ -30,5 +30,5 @@ type_expression-type_chain-requires t c =
 
 pub type_expression-returns-in_ok-arguments-in-25 : goal.type_expression-returns-in_ok-arguments-in-25
 type_expression-returns-in_ok-arguments-in-25 t c =
-    call_judged c.in-25.is c.in_ok-arguments.ensures
-    (c.judge_call.ensures ∙ ap (λ (m : Option Name). call_of c.args.at (node_at c.args.table.now c.args.at) m c.in_ok-arguments.arguments.count c.in_ok-arguments.arguments.unfit) c.newest.ensures)
+    call_judged c.in-25.is c.in_ok-arguments-in-25.ensures
+    (c.judge_call.ensures ∙ ap (λ (m : Option Name). call_of c.args.at (node_at c.args.table.now c.args.at) m c.in_ok-arguments-in-25.arguments.count c.in_ok-arguments-in-25.arguments.unfit) c.newest.ensures)
