@@ -92,7 +92,7 @@ fn fitting(unfit: Option<Valued>) -> Result<Ty, Refusal>
     }
 }
 
-#[cycle(type_chain_type_expression)]
+#[cycle(typing)]
 fn type_expression(
     table: &[Node],
     at: u16,
@@ -121,7 +121,7 @@ fn type_expression(
 }
 
 // A chain of expressions, one after the other.
-#[cycle(type_chain_type_expression)]
+#[cycle(typing)]
 pub(crate) fn type_chain(
     table: &[Node],
     first: u16,

@@ -11,7 +11,7 @@ use crate::note::Note;
 use crate::refusal::{Question, Refusal};
 use crate::shelf::{Mark, Name, Shelf};
 
-#[cycle(walk_statement_walk_statements)]
+#[cycle(walking)]
 fn walk_statement(
     table: &[Node],
     at: u16,
@@ -45,7 +45,7 @@ fn walk_statement(
     }
 }
 
-#[cycle(walk_statement_walk_statements)]
+#[cycle(walking)]
 pub(crate) fn walk_statements(
     table: &[Node],
     first: u16,

@@ -2,21 +2,21 @@ use Rattle.checker.proofs.Exprs.{broken}
 use Rattle.checker.proofs.Whole.{size_yes, size_refused, judged_no, judged_yes}
 use Rattle.checker.proofs.check.check_table.Goals as goal
 
-pub returns-in-err-ask-size : goal.returns-in-err-ask-size
-returns-in-err-ask-size c =
-    size_refused c.args.table.now c.args.notes.now c.in-err-ask-size.field-0.0 c.from-residual.result c.in-err-ask-size.ensures (broken _ _ c.from-residual.ensures.1)
+pub returns-in_err-ask_size : goal.returns-in_err-ask_size
+returns-in_err-ask_size c =
+    size_refused c.args.table.now c.args.notes.now c.in_err-ask_size.field-0.0 c.from_residual.result c.in_err-ask_size.ensures (broken _ _ c.from_residual.ensures.1)
 
-pub judge-table-result-requires : goal.judge-table-result-requires
-judge-table-result-requires c = size_yes c.args.table.now c.args.notes.now c.in-ok-ask-size.ensures
+pub judge_table-result-requires : goal.judge_table-result-requires
+judge_table-result-requires c = size_yes c.args.table.now c.args.notes.now c.in_ok-ask_size.ensures
 
-pub returns-then-is-err : goal.returns-then-is-err
-returns-then-is-err c =
-    judged_no c.args.table.now c.args.notes.now c.judge-table-result.new.notes
-    (size_yes c.args.table.now c.args.notes.now c.in-ok-ask-size.ensures) c.judge-table-result.ensures.beyond
-    c.judge-table-result.result c.clear-notes.new.notes c.judge-table-result.ensures.result c.if-is-err.ensures.value c.judge-table-result.auto.notes c.clear-notes.ensures
+pub returns-then-is_err : goal.returns-then-is_err
+returns-then-is_err c =
+    judged_no c.args.table.now c.args.notes.now c.judge_table-result.new.notes
+    (size_yes c.args.table.now c.args.notes.now c.in_ok-ask_size.ensures) c.judge_table-result.ensures.beyond
+    c.judge_table-result.result c.clear_notes.new.notes c.judge_table-result.ensures.result c.if-is_err.ensures.value c.judge_table-result.auto.notes c.clear_notes.ensures
 
-pub returns-else-is-err : goal.returns-else-is-err
-returns-else-is-err c =
-    judged_yes c.args.table.now c.args.notes.now c.judge-table-result.new.notes
-    (size_yes c.args.table.now c.args.notes.now c.in-ok-ask-size.ensures) c.judge-table-result.ensures.beyond
-    c.judge-table-result.result c.judge-table-result.ensures.result c.if-is-err.ensures.value
+pub returns-else-is_err : goal.returns-else-is_err
+returns-else-is_err c =
+    judged_yes c.args.table.now c.args.notes.now c.judge_table-result.new.notes
+    (size_yes c.args.table.now c.args.notes.now c.in_ok-ask_size.ensures) c.judge_table-result.ensures.beyond
+    c.judge_table-result.result c.judge_table-result.ensures.result c.if-is_err.ensures.value

@@ -17,38 +17,38 @@ returns-then-depth-gt-DEEPEST t c =
       within = c.requires.within;
     }
 
-pub lowest-deep-a-requires : goal.lowest-deep-a-requires
-lowest-deep-a-requires t c =
+pub lowest_deep-a-requires : goal.lowest_deep-a-requires
+lowest_deep-a-requires t c =
     let less = less_a c.args.table.now c.requires.linked c.args.link c.if-link-eq0.false c.requires.within in
     (omega arith, (c.requires.linked, (within_a c.args.table.now c.requires.linked c.args.link c.if-link-eq0.false c.requires.within, omega arith)))
 
-pub lowest-deep-b-requires : goal.lowest-deep-b-requires
-lowest-deep-b-requires t c =
+pub lowest_deep-b-requires : goal.lowest_deep-b-requires
+lowest_deep-b-requires t c =
     let less = less_b c.args.table.now c.requires.linked c.args.link c.if-link-eq0.false c.requires.within in
     (omega arith, (c.requires.linked, (within_b c.args.table.now c.requires.linked c.args.link c.if-link-eq0.false c.requires.within, omega arith)))
 
-pub lowest-deep-c-requires : goal.lowest-deep-c-requires
-lowest-deep-c-requires t c =
+pub lowest_deep-c-requires : goal.lowest_deep-c-requires
+lowest_deep-c-requires t c =
     let less = less_c c.args.table.now c.requires.linked c.args.link c.if-link-eq0.false c.requires.within in
     (omega arith, (c.requires.linked, (within_c c.args.table.now c.requires.linked c.args.link c.if-link-eq0.false c.requires.within, omega arith)))
 
-pub lowest-deep-next-requires : goal.lowest-deep-next-requires
-lowest-deep-next-requires t c =
+pub lowest_deep-next-requires : goal.lowest_deep-next-requires
+lowest_deep-next-requires t c =
     let less = less_next c.args.table.now c.requires.linked c.args.link c.if-link-eq0.false c.requires.within in
     (omega arith, (c.requires.linked, (within_next c.args.table.now c.requires.linked c.args.link c.if-link-eq0.false c.requires.within, omega arith)))
 
 pub returns : goal.returns
 returns t c =
     let shallow : ltb 200 c.args.depth ≡ false = le-ltb _ _ c.if-depth-gt-DEEPEST.false in
-    let one = c.lower-of.ensures ∙ ap₂ lower c.lowest-deep-b.ensures.value c.lowest-deep-c.ensures.value in
-    let two = c.lower-of-2.ensures ∙ ap₂ lower c.lowest-deep-a.ensures.value one in
-    let three = c.lower-of-3.ensures ∙ ap₂ lower two c.lowest-deep-next.ensures.value in
-    let in_one = lower_within _ _ (length c.args.table.now) c.lowest-deep-b.ensures.within c.lowest-deep-c.ensures.within in
-    let in_two = lower_within _ _ (length c.args.table.now) c.lowest-deep-a.ensures.within in_one in
-    let in_three = lower_within _ _ (length c.args.table.now) in_two c.lowest-deep-next.ensures.within in
+    let one = c.lower_of.ensures ∙ ap₂ lower c.lowest_deep-b.ensures.value c.lowest_deep-c.ensures.value in
+    let two = c.lower_of-2.ensures ∙ ap₂ lower c.lowest_deep-a.ensures.value one in
+    let three = c.lower_of-3.ensures ∙ ap₂ lower two c.lowest_deep-next.ensures.value in
+    let in_one = lower_within _ _ (length c.args.table.now) c.lowest_deep-b.ensures.within c.lowest_deep-c.ensures.within in
+    let in_two = lower_within _ _ (length c.args.table.now) c.lowest_deep-a.ensures.within in_one in
+    let in_three = lower_within _ _ (length c.args.table.now) in_two c.lowest_deep-next.ensures.within in
     record {
       value =
           three
           ∙ sym (rw (tree_at c.args.table.now c.requires.linked c.args.link c.if-link-eq0.false c.requires.within, shallow) refl);
-      within = rw (c.lower-of-3.ensures, c.lower-of-2.ensures, c.lower-of.ensures) in_three;
+      within = rw (c.lower_of-3.ensures, c.lower_of-2.ensures, c.lower_of.ensures) in_three;
     }
