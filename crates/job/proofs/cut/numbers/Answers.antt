@@ -8,13 +8,13 @@ use Rattle.job.proofs.cut.numbers.Goals as goal
 pub loop-i-init : goal.loop-i-init
 loop-i-init g c = taken_none g.row.N (further 44 c.args.pieces) _ (length-replicate g.row.N 0)
 
-pub returns-in-default : goal.returns-in-default
-returns-in-default g c = too_few _ _ _ _ _ c.loop-i.invariant c.loop-i-test.true (ap (further 44) c.in-default.is)
+pub returns-in_default : goal.returns-in_default
+returns-in_default g c = too_few _ _ _ _ _ c.loop-i.invariant c.loop-i-test.true (ap (further 44) c.in_default.is)
 
-pub returns-in-default-number : goal.returns-in-default-number
-returns-in-default-number g c =
+pub returns-in_default-number : goal.returns-in_default-number
+returns-in_default-number g c =
     no_number _ _ _ _ _ c.loop-i.invariant _ _ c.loop-i-test.true
-    (ap (further 44) c.in-Some.is ∙ c.cut-first-first.ensures.pieces) c.in-default-number.ensures
+    (ap (further 44) c.in-Some.is ∙ c.cut-first-first.ensures.pieces) c.in_default-number.ensures
 
 pub loop-i-preserved : goal.loop-i-preserved
 loop-i-preserved g c =

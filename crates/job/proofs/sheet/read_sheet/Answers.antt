@@ -6,8 +6,8 @@ use Rattle.job.proofs.Readback.{back}
 use Rattle.job.proofs.Sheets.{cuts, first_faulty, first_good}
 use Rattle.job.proofs.sheet.read_sheet.Goals as goal
 
-pub returns-in-default : goal.returns-in-default
-returns-in-default c =
+pub returns-in_default : goal.returns-in_default
+returns-in_default c =
     let exact : refused FirstLine 1 ≡ sheet_of c.args.bytes.now = search rules in
     record { exact = exact; back = back c.args.bytes.now (refused FirstLine 1) exact }
 

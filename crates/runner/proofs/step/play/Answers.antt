@@ -11,10 +11,10 @@ returns-in-Some g c =
       beyond = c.settle.ensures.beyond;
     }
 
-pub returns-in-default : goal.returns-in-default
-returns-in-default g c =
+pub returns-in_default : goal.returns-in_default
+returns-in_default g c =
     let s = scene c.args.machine.now (take c.args.limit (g.M.Memory.cells c.args.memory.now)) in
     record {
-      after = played-stop c.args.table.now s (core_of c.begin.new.machine) c.args.notes.now c.in-default.ensures;
+      after = played-stop c.args.table.now s (core_of c.begin.new.machine) c.args.notes.now c.in_default.ensures;
       beyond = refl;
     }

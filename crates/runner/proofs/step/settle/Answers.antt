@@ -30,12 +30,12 @@ returns-in-None g c =
       beyond = refl;
     }
 
-pub returns-in-default : goal.returns-in-default
-returns-in-default g c =
+pub returns-in_default : goal.returns-in_default
+returns-in_default g c =
     let s = scene c.loop-frame.machine (take c.args.limit (g.M.Memory.cells c.args.memory.now)) in
     record {
       after = sym (c.loop-frame.invariant
           ∙ settles_none c.args.table.now s c.loop-frame.signal s.core.frames (held c.pop.new.self)
-          (core_of c.finish.new.machine) c.pop.ensures.after c.in-default.ensures.value c.finish.ensures);
+          (core_of c.finish.new.machine) c.pop.ensures.after c.in_default.ensures.value c.finish.ensures);
       beyond = refl;
     }

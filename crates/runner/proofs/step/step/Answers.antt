@@ -6,6 +6,6 @@ pub returns-in-Running : goal.returns-in-Running
 unfolding stepped
 returns-in-Running g c = search rules
 
-pub returns-in-default : goal.returns-in-default
+pub returns-in_default : goal.returns-in_default
 unfolding stepped
-returns-in-default g c = search rules
+returns-in_default g c = search rules

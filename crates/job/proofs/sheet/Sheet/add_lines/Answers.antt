@@ -19,4 +19,4 @@ loop-more-preserved c =
     c.loop-more.invariant
     ∙ line_good c.loop-more.rest.now first.piece.now c.in-Some.more.now
     (cuts c.loop-more.rest.now first.piece.now first.rest c.in-Some.more c.cut-first-first.ensures.pieces c.in-Some.is)
-    (meant c.loop-more.self) (meant c.add-line.new.self) c.in-default-add-line.ensures
+    (meant c.loop-more.self) (meant c.add-line.new.self) c.in_default-add-line.ensures

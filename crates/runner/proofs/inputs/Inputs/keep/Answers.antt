@@ -3,9 +3,11 @@ use borrow.Rule.Slice.PartMut.{same_len_mid}
 use Rattle.std.proofs.lemmas.List.{take_at}
 use Rattle.runner.proofs.inputs.Inputs.keep.Goals as goal
 
-pub invariant-of-self : goal.invariant-of-self
-invariant-of-self c =
-    (c.requires, (same_len_mid 0 _ c.args.self.now.values c.copy-from-slice.new.self c.copy-from-slice.ensures.len ∙ c.args.self.now.whole, tt))
+pub invariant_of-self : goal.invariant_of-self
+invariant_of-self c = record {
+  fits = c.requires;
+  whole = same_len_mid 0 _ c.args.self.now.values c.copy_from_slice.new.self c.copy_from_slice.ensures.len ∙ c.args.self.now.whole;
+}
 
 pub returns : goal.returns
-returns c = take_at c.copy-from-slice.new.self _ _ (ap length c.copy-from-slice.ensures.after) ∙ c.copy-from-slice.ensures.after
+returns c = take_at c.copy_from_slice.new.self _ _ (ap length c.copy_from_slice.ensures.after) ∙ c.copy_from_slice.ensures.after

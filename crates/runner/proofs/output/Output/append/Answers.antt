@@ -3,10 +3,13 @@ use borrow.Rule.Slice.PartMut.{same_len_mid}
 use Rattle.runner.proofs.Appended.{behind, fits_yes}
 use Rattle.runner.proofs.output.Output.append.Goals as goal
 
-pub invariant-of-self : goal.invariant-of-self
-invariant-of-self c =
+pub invariant_of-self : goal.invariant_of-self
+invariant_of-self c =
     let m = c.args.self.now.fits in
-    (omega arith, (same_len_mid _ _ c.args.self.now.bytes c.copy-from-slice.new.self c.copy-from-slice.ensures.len ∙ c.args.self.now.whole, tt))
+    record {
+      fits = omega arith;
+      whole = same_len_mid _ _ c.args.self.now.bytes c.copy_from_slice.new.self c.copy_from_slice.ensures.len ∙ c.args.self.now.whole;
+    }
 
 pub returns : goal.returns
 returns c =
@@ -15,5 +18,5 @@ returns c =
     let inside : c.args.self.now.len ≤ length c.args.self.now.bytes = omega arith in
     record {
       says = fits_yes c.args.self.now.len c.args.self.now.bytes c.args.text.now inside m c.if-text-self.false;
-      after = behind c.args.self.now.len _ c.args.self.now.bytes _ c.args.text.now c.copy-from-slice.ensures.after inside;
+      after = behind c.args.self.now.len _ c.args.self.now.bytes _ c.args.text.now c.copy_from_slice.ensures.after inside;
     }
