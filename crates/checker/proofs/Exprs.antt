@@ -1,21 +1,18 @@
 -- What each way through the expressions' functions answers, over plain values.
-use Rattle.std.proofs.Common.{◌≡◌, ℕ, zero, suc, ◌+◌, ◌-◌, ◌<◌, ◌≤◌, Bool, true, false, cond, eqb, List, [], ◌∷◌, length, drop, set, IsErrAnd, Some, None, Ok, Err, Option, Result, sym, refl, ap, ◌∙◌, ap₂, inl, inr, add-zero, zero-add, arith}
-use Rattle.std.proofs.lemmas.Bool.{ne_eqb}
+use Rattle.std.proofs.Common.{◌≡◌, ℕ, suc, ◌+◌, ◌-◌, ◌≤◌, Bool, true, false, cond, List, ◌∷◌, length, drop, set, IsErrAnd, Some, None, Ok, Err, Option, Result, refl, ap, ◌∙◌, add-zero, zero-add, arith}
 use Rattle.std.proofs.lemmas.List.{drop-set-lt}
 use Rattle.std.proofs.lemmas.Result.{err_from_is_err_and}
 use Rattle.checker.specs.declared.node.Node.{Node}
 use Rattle.checker.specs.declared.note.Note.{Note}
 use Rattle.checker.specs.declared.refusal.Refusal.{Refusal}
-use Rattle.checker.specs.declared.refusal.Question.TheVariants.{NodeForm}
 use Rattle.checker.specs.declared.shelf.Name.{Name}
 use Rattle.checker.specs.declared.types.Ty.{Ty}
-use Rattle.checker.specs.declared.types.Ty.TheVariants.{Void, Int}
 use Rattle.checker.specs.declared.types.Valued.{Valued}
 use Rattle.checker.specs.declared.types.Arguments.{Arguments}
 use Rattle.checker.specs.Questions.{then}
 use Rattle.checker.specs.Notes.{put}
 use Rattle.checker.specs.Scope.{means}
-use Rattle.checker.specs.Tree.{Tree, none, at, tree, node_at, Linked, left}
+use Rattle.checker.specs.Tree.{tree, node_at, Linked, left}
 use Rattle.checker.specs.Typing.{Out, note_of, is_int, valued, first_unfit, earlier, no_arguments, after, call_of, with_notes, type_at, values, carries, Types, Gathers}
 use Rattle.checker.proofs.Trees.{tree_at, tree_none, less_next, within_next, left_within}
 

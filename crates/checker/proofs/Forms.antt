@@ -1,11 +1,11 @@
 -- The questions about the whole table, node after node.
-use Rattle.std.proofs.Common.{◌≡◌, ℕ, zero, suc, ◌+◌, ◌-◌, ◌*◌, ◌<◌, ◌≤◌, Bool, true, false, cond, not, ◌&&◌, ◌||◌, eqb, ltb, leb, ◌⊎◌, List, [], ◌∷◌, length, get_or, drop, Ok, Err, Result, sym, refl, ap, ◌∙◌, ap₂, inl, inr, add-zero, arith}
+use Rattle.std.proofs.Common.{◌≡◌, ℕ, zero, suc, ◌+◌, ◌-◌, ◌<◌, ◌≤◌, Bool, true, false, cond, ◌&&◌, eqb, leb, ◌⊎◌, List, [], ◌∷◌, length, get_or, drop, Ok, Err, Result, sym, refl, ◌∙◌, inl, inr, add-zero, arith}
 use Rattle.std.proofs.lemmas.Bool.{ne_eqb, cond-true, cond-false, cases_eq, cases_Bool, and_parts, leb-true}
 use Rattle.std.proofs.lemmas.List.{at_drop_more, at_drop_all}
 use Rattle.checker.specs.declared.node.Node.{Node}
 use Rattle.checker.specs.declared.shape.Class.{Class}
 use Rattle.checker.specs.declared.refusal.Refusal.{Refusal}
-use Rattle.checker.specs.Tree.{node_at, blank, Up, Links, Linked, left}
+use Rattle.checker.specs.Tree.{node_at, blank, Linked, left}
 use Rattle.checker.specs.declared.refusal.Question.{Question}
 use Rattle.checker.specs.declared.refusal.Question.TheVariants.{NodeForm}
 use Rattle.checker.specs.Questions.{refuse, then}

@@ -1,8 +1,8 @@
 -- How a tree hangs together.
-use Rattle.std.proofs.Common.{◌≡◌, ℕ, zero, suc, ◌+◌, ◌-◌, ◌<◌, ◌≤◌, Bool, true, false, cond, ◌&&◌, ◌||◌, eqb, ltb, leb, ◌⊎◌, List, length, get_or, sym, refl, ap, ◌∙◌, inl, inr, arith}
-use Rattle.std.proofs.lemmas.Bool.{ne_eqb, cond-false, cases_eq, or_cases, and_parts, eqb-true, ltb-true, leb-true}
+use Rattle.std.proofs.Common.{◌≡◌, ℕ, zero, suc, ◌-◌, ◌<◌, ◌≤◌, true, ◌&&◌, eqb, ltb, leb, ◌⊎◌, List, length, refl, inl, inr, arith}
+use Rattle.std.proofs.lemmas.Bool.{ne_eqb, cases_eq, or_cases, and_parts, eqb-true, ltb-true, leb-true}
 use Rattle.checker.specs.declared.node.Node.{Node}
-use Rattle.checker.specs.Tree.{Tree, none, at, grow, tree, node_at, Links, Linked, Up, left}
+use Rattle.checker.specs.Tree.{Tree, none, at, grow, tree, node_at, Linked, Up, left}
 use Rattle.checker.specs.Form.{link_fits}
 
 -- a link stays in the table

@@ -1,19 +1,17 @@
 -- What each way through the statements and declarations answers, over plain values.
-use Rattle.std.proofs.Common.{◌≡◌, ℕ, zero, suc, ◌+◌, ◌-◌, ◌<◌, ◌≤◌, Bool, true, false, cond, eqb, ltb, List, [], ◌∷◌, length, drop, set, is_some, is_ok, Some, None, Ok, Err, Option, Result, sym, refl, ap, ◌∙◌, subst, ap₂, add-one, arith}
+use Rattle.std.proofs.Common.{◌≡◌, ℕ, ◌+◌, ◌<◌, ◌≤◌, true, false, ltb, List, ◌∷◌, length, drop, set, is_some, Ok, Err, Option, Result, sym, refl, ap, ◌∙◌, add-one, arith}
 use Rattle.std.proofs.lemmas.Bool.{ne_eqb, eq-eqb, lt-ltb, le-ltb, false≢true}
 use Rattle.checker.specs.declared.node.Node.{Node}
 use Rattle.checker.specs.declared.note.Note.{Note}
 use Rattle.checker.specs.declared.refusal.Refusal.{Refusal}
-use Rattle.checker.specs.declared.refusal.Question.TheVariants.{NewName, MainForm, ShelfRoom}
+use Rattle.checker.specs.declared.refusal.Question.TheVariants.{MainForm, ShelfRoom}
 use Rattle.checker.specs.declared.shelf.Name.{Name}
-use Rattle.checker.specs.declared.types.Valued.{Valued}
-use Rattle.checker.specs.declared.types.Arguments.{Arguments}
 use Rattle.checker.specs.Questions.{then}
 use Rattle.checker.specs.Search.{newest_first}
 use Rattle.checker.specs.Scope.{means, declared, built_ins}
-use Rattle.checker.specs.Tree.{Tree, none, at, tree, node_at, Linked, left}
-use Rattle.checker.specs.Typing.{Out, no_arguments, after, values, carries, Gathers}
-use Rattle.checker.specs.Judge.{notes_of, statement_at, statements, enter, function, declarations, leaves, Walks, leaves_names, Declares, leaves_scope, Enters}
+use Rattle.checker.specs.Tree.{tree, node_at, Linked, left}
+use Rattle.checker.specs.Typing.{Out, values}
+use Rattle.checker.specs.Judge.{statement_at, statements, enter, function, declarations, Walks, Declares, Enters}
 use Rattle.checker.proofs.Newest.{newest_set, length_newest}
 use Rattle.checker.proofs.Trees.{tree_at, tree_none, less_next, within_next}
 

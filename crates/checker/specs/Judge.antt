@@ -1,5 +1,5 @@
 -- The walk: statements, declarations and the whole program, in order.
-use Rattle.std.specs.Prelude.{◌≡◌, ℕ, ◌+◌, ◌≤◌, Bool, true, false, cond, List, [], ◌∷◌, length, drop, is_some, is_ok, Some, None, Ok, Err, Option, Result, ◌==◌, nat_lt}
+use Rattle.std.specs.Prelude.{◌≡◌, ℕ, ◌≤◌, Bool, true, cond, List, ◌∷◌, length, drop, is_some, is_ok, Ok, Err, Result, ◌==◌, nat_lt}
 use Rattle.checker.specs.declared.node.Node.{Node}
 use Rattle.checker.specs.declared.note.Note.{Note}
 use Rattle.checker.specs.declared.refusal.Refusal.{Refusal}

@@ -1,5 +1,5 @@
 -- A table whose links go up is a way to write down a tree.
-use Rattle.std.specs.Prelude.{◌≡◌, ℕ, zero, suc, ◌+◌, ◌-◌, ◌<◌, ◌≤◌, Bool, true, false, cond, List, [], ◌∷◌, length, ◌==◌, ◌≢◌, slice_index_or}
+use Rattle.std.specs.Prelude.{ℕ, zero, suc, ◌-◌, ◌<◌, ◌≤◌, cond, List, length, ◌==◌, ◌≢◌, slice_index_or}
 use Rattle.checker.specs.declared.node.Node.{Node}
 
 abbrev pub blank : Node

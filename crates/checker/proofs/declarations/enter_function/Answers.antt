@@ -1,3 +1,4 @@
+use Rattle.std.proofs.Common.{arith}
 use Rattle.checker.proofs.Walking.{enter_full, enter_misfit, enter_done}
 use Rattle.checker.proofs.declarations.enter_function.Goals as goal
 
@@ -14,4 +15,4 @@ returns-then-node-ne2 c =
 pub returns : goal.returns
 returns c =
     enter_done c.args.names.now c.args.shelf.now.count c.args.at c.args.node c.newest.result c.told-names c.newest.ensures c.if-is_some.ensures
-    c.if-place-ge-SHELF_PLACES.false c.if-node-ne2.false
+    c.if-place-ge-SHELF_PLACES.false (omega arith)

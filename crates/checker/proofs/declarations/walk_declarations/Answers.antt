@@ -1,4 +1,3 @@
-use Rattle.std.proofs.Common.{refl, ◌∙◌}
 use Rattle.checker.proofs.Trees.{less_next}
 use Rattle.checker.proofs.Exprs.{broken}
 use Rattle.checker.proofs.Walking.{declarations_refused, declarations_on, declarations_done}

@@ -1,4 +1,4 @@
-use Rattle.std.proofs.Common.{◌≤◌, length, Option, ap, ◌∙◌, arith}
+use Rattle.std.proofs.Common.{Option, ap, ◌∙◌, arith}
 use Rattle.checker.specs.declared.shelf.Name.{Name}
 use Rattle.checker.specs.Tree.{node_at}
 use Rattle.checker.specs.Typing.{call_of}

@@ -1,4 +1,4 @@
-use Rattle.std.proofs.Common.{◌≡◌, sym, refl, ap, ◌∙◌, arith, rules}
+use Rattle.std.proofs.Common.{sym, ◌∙◌}
 use Rattle.checker.proofs.Forms.{chain_none, chain_wrong, chain_cut, chain_on, chain_within, chain_less}
 use Rattle.checker.proofs.form.chain_fits.Goals as goal
 
