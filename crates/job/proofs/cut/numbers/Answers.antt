@@ -14,18 +14,18 @@ returns-in_default g c = too_few _ _ _ _ _ c.loop-i.invariant c.loop-i-test.true
 pub returns-in_default-number : goal.returns-in_default-number
 returns-in_default-number g c =
     no_number _ _ _ _ _ c.loop-i.invariant _ _ c.loop-i-test.true
-    (ap (further 44) c.in-Some.is ∙ c.cut-first-first.ensures.pieces) c.in_default-number.ensures
+    (ap (further 44) c.in-Some.is ∙ c.cut_first-first.ensures.pieces) c.in_default-number.ensures
 
 pub loop-i-preserved : goal.loop-i-preserved
 loop-i-preserved g c =
     taken_more _ _ _ _ _ c.loop-i.invariant _ _ _ c.loop-i-test.true
-    (ap (further 44) c.in-Some.is ∙ c.cut-first-first.ensures.pieces) c.in-Some-number.ensures
+    (ap (further 44) c.in-Some.is ∙ c.cut_first-first.ensures.pieces) c.in-Some-number.ensures
 
 pub returns-in-None : goal.returns-in-None
 returns-in-None g c = all_taken _ _ _ _ _ c.loop-i.invariant c.loop-i-test.false (ap (further 44) c.in-None.is)
 
-pub returns-in-Some-default : goal.returns-in-Some-default
-returns-in-Some-default g c =
-    let some = cut_some 44 c.in-Some-default.field-0.now in
+pub returns-in-Some-rest : goal.returns-in-Some-rest
+returns-in-Some-rest g c =
+    let some = cut_some 44 c.in-Some-rest.field-0.now in
     too_many _ _ _ _ _ c.loop-i.invariant _ _ c.loop-i-test.false
-    (ap (further 44) c.in-Some-default.is ∙ some.1.1)
+    (ap (further 44) c.in-Some-rest.is ∙ some.1.1)

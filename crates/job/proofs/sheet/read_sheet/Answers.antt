@@ -13,25 +13,25 @@ returns-in_default c =
 
 pub returns-in-Err : goal.returns-in-Err
 returns-in-Err c =
-    let first = c.cut-first-first.result in
+    let first = c.cut_first-first.result in
     let exact =
     first_faulty c.args.bytes.now first.piece.now c.in-Some.rest.now
-    (cuts c.args.bytes.now first.piece.now first.rest c.in-Some.rest c.cut-first-first.ensures.pieces c.in-Some.is)
+    (cuts c.args.bytes.now first.piece.now first.rest c.in-Some.rest c.cut_first-first.ensures.pieces c.in-Some.is)
     c.in-Err.question c.in-Err.ensures in
     record { exact = exact; back = back c.args.bytes.now (refused c.in-Err.question 1) exact }
 
-pub returns-in-err-add-lines : goal.returns-in-err-add-lines
-returns-in-err-add-lines c =
-    let answer = meaning c.from-residual.result in
+pub returns-in_err-add_lines-in-Ok : goal.returns-in_err-add_lines-in-Ok
+returns-in_err-add_lines-in-Ok c =
+    let answer = meaning c.from_residual.result in
     let exact : answer ≡ sheet_of c.args.bytes.now = search rules in
     record { exact = exact; back = back c.args.bytes.now answer exact }
 
-pub returns-in-ok-add-lines : goal.returns-in-ok-add-lines
-returns-in-ok-add-lines c =
-    let first = c.cut-first-first.result in
+pub returns-in_ok-add_lines-in-Ok : goal.returns-in_ok-add_lines-in-Ok
+returns-in_ok-add_lines-in-Ok c =
+    let first = c.cut_first-first.result in
     let exact =
-    c.in-ok-add-lines.ensures
+    c.in_ok-add_lines-in-Ok.ensures
     ∙ sym (first_good c.args.bytes.now first.piece.now c.in-Some.rest.now
-    (cuts c.args.bytes.now first.piece.now first.rest c.in-Some.rest c.cut-first-first.ensures.pieces c.in-Some.is)
+    (cuts c.args.bytes.now first.piece.now first.rest c.in-Some.rest c.cut_first-first.ensures.pieces c.in-Some.is)
     (meant c.in-Ok.sheet) c.in-Ok.ensures) in
-    record { exact = exact; back = back c.args.bytes.now (Ok (meant c.add-lines.new.self)) exact }
+    record { exact = exact; back = back c.args.bytes.now (Ok (meant c.add_lines.new.self)) exact }
