@@ -1,6 +1,6 @@
 -- A job's session, from what its opening and its grants ensure.
-use Rattle.std.proofs.Common.{◌≡◌, ℕ, ◌+◌, ◌^◌, ◌≤◌, Bool, true, false, cond, ◌&&◌, ltb, leb, List, [], ◌∷◌, length, IsErrAnd, Some, None, Ok, Err, Option, Result, sym, refl, ap, ◌∙◌, inl, inr, zero-add, arith}
-use Rattle.std.proofs.lemmas.Bool.{false≢true, cases_Bool, and_parts, leb-true}
+use Rattle.std.proofs.Common.{◌≡◌, ℕ, ◌^◌, ◌≤◌, Bool, true, false, cond, ◌&&◌, ltb, leb, List, [], ◌∷◌, length, IsErrAnd, Some, None, Ok, Err, Option, Result, sym, refl, ap, ◌∙◌, arith}
+use Rattle.std.proofs.lemmas.Bool.{false≢true, and_parts, leb-true}
 use Rattle.std.proofs.lemmas.Result.{err_from_is_err_and}
 use Rattle.checker.specs.declared.node.Node.{Node}
 use Rattle.checker.specs.declared.note.Note.{Note}
@@ -8,15 +8,14 @@ use Rattle.checker.specs.Check.{checked}
 use Rattle.memories.specs.declared.value.Value.{Value}
 use Rattle.runner.specs.declared.refusal.OpenRefusal.{OpenRefusal}
 use Rattle.runner.specs.declared.session.Session.{Session}
-use Rattle.runner.specs.State.{State, Cell}
+use Rattle.runner.specs.State.{Cell}
 use Rattle.runner.specs.Run.{ran}
-use Rattle.runner.specs.Calls.{Opening, seen, start, open_answer, open_notes}
-use Rattle.job.specs.declared.sheet.SheetRefusal.{SheetRefusal}
+use Rattle.runner.specs.Calls.{seen, start, open_answer, open_notes}
 use Rattle.job.specs.declared.sheet.SheetQuestion.{SheetQuestion}
 use Rattle.job.specs.declared.sheet.SheetQuestion.TheVariants.{FirstLine, LineForm, FieldWidth, LineCount}
 use Rattle.job.specs.Format.{SheetMeaning, sheet_of, sheet_lines, later_lines, later_line, first_line, input_line, node_line, and_then, asked, if_some, usable, field, none_above, is_empty, refused, next_line, with_input, with_node, input_of, node_of, input_largest, node_largest, opened}
 use Rattle.job.specs.Lines.{cut, fields_of}
-use Rattle.job.specs.Jobs.{fresh, opening_of, opens, script_notes, standing, told, told_of, Plays}
+use Rattle.job.specs.Jobs.{fresh, opening_of, opens, script_notes, standing, told_of, Plays}
 
 -- what the exit of a `?` returns
 pub broken : {X F : Type 0} (r : Result X F) (f : F) → IsErrAnd r (λ y. y ≡ f) → r ≡ Err f

@@ -1,5 +1,5 @@
 -- What is written of a sheet reads back to that sheet. Assumes nothing.
-use Rattle.std.proofs.Common.{◌≡◌, ℕ, suc, ◌+◌, ◌^◌, ◌<◌, ◌≤◌, true, ◌&&◌, eqb, ltb, leb, List, [], ◌∷◌, ◌++◌, map, length, Some, None, Ok, Err, decimal, Option, Result, sym, refl, ap, ◌∙◌, append_assoc, append-nil, arith, lit<}
+use Rattle.std.proofs.Common.{◌≡◌, ℕ, ◌+◌, ◌^◌, ◌<◌, ◌≤◌, true, ◌&&◌, leb, List, [], ◌∷◌, ◌++◌, map, length, Some, None, Ok, Err, decimal, Option, Result, sym, refl, ap, ◌∙◌, append_assoc, append-nil, arith, lit<}
 use Rattle.std.specs.Str.Parse.{digits_value}
 use Rattle.std.specs.Char.{is_ascii_digit}
 use Rattle.std.specs.Str.{all_ascii_digits}
@@ -10,7 +10,7 @@ use Rattle.std.proofs.lemmas.Fmt.{decimal_nonempty, length-decimal-le, digits_de
 use Rattle.std.proofs.lemmas.Str.Parse.{IsNumeralModel, numerals_by_value, tells_all_ascii_digits}
 use Rattle.std.proofs.lemmas.Bool.{and_parts, cond-true, cond-false, eq-eqb, ne_eqb, le-leb, leb-true, lt-ltb}
 use Rattle.std.proofs.lemmas.List.{length_push}
-use Rattle.job.specs.Lines.{led, cut, number_of, and_numbers, numbers_of, after_letter, fields_of}
+use Rattle.job.specs.Lines.{led, cut, number_of, numbers_of, after_letter, fields_of}
 use Rattle.job.specs.Format.{SheetMeaning, if_some, is_empty, none_above, usable, input_largest, node_largest, opened, with_input, with_node}
 use Rattle.job.specs.declared.sheet.SheetQuestion.TheVariants.{LineForm}
 use Rattle.job.specs.declared.sheet.SheetRefusal.{SheetRefusal}

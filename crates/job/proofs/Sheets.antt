@@ -1,7 +1,6 @@
 -- A sheet is read line by line. Assumes nothing.
-use Rattle.std.proofs.Common.{◌≡◌, ℕ, List, [], ◌∷◌, Some, Ok, Err, Option, Result, sym, refl, ap, ◌∙◌, subst, Bor}
+use Rattle.std.proofs.Common.{◌≡◌, ℕ, List, ◌∷◌, Some, Ok, Err, Option, Result, sym, refl, ap, ◌∙◌, subst, Bor}
 use Rattle.job.specs.declared.sheet.SheetQuestion.{SheetQuestion}
-use Rattle.job.specs.declared.sheet.SheetRefusal.{SheetRefusal}
 use Rattle.job.specs.Lines.{cut}
 use Rattle.job.specs.Pieces.{further}
 use Rattle.job.specs.Format.{SheetMeaning, refused, and_then, first_line, later_line, later_lines, next_line, sheet_lines, sheet_of}

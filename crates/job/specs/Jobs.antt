@@ -1,5 +1,5 @@
 -- What a job comes to: from the bytes of its sheet to the bytes that it prints.
-use Rattle.std.specs.Prelude.{◌≡◌, ℕ, ◌-◌, Bool, true, false, cond, List, [], ◌∷◌, ◌++◌, length, replicate, ℤ, pos, is_ok, Ok, Err, Result, ◌==◌, nat_le}
+use Rattle.std.specs.Prelude.{◌≡◌, ℕ, true, cond, List, [], length, replicate, pos, is_ok, Ok, Err, Result, ◌==◌, nat_le}
 use Rattle.checker.specs.declared.node.Node.{Node}
 use Rattle.checker.specs.declared.note.Note.{Note}
 use Rattle.checker.specs.Notes.{unnoted}

@@ -1,8 +1,6 @@
 -- What a sheet in memory means, and what a reading answers.
-use Rattle.std.specs.Prelude.{ℕ, Ok, Err, Result}
+use Rattle.std.specs.Prelude.{Ok, Err, Result}
 use Rattle.job.specs.declared.sheet.Sheet.{Sheet}
-use Rattle.job.specs.declared.sheet.SheetQuestion.{SheetQuestion}
-use Rattle.job.specs.declared.sheet.SheetRefusal.{SheetRefusal}
 use Rattle.job.specs.Held.{held}
 use Rattle.job.specs.Format.{SheetMeaning}
 

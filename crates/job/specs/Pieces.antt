@@ -1,5 +1,5 @@
 -- What is left of a text after a mark.
-use Rattle.std.specs.Prelude.{ℕ, suc, List, [], ◌∷◌, length, Some, None, Option}
+use Rattle.std.specs.Prelude.{ℕ, suc, List, [], length, Some, None, Option}
 use Rattle.std.specs.Borrow.{Bor}
 use Rattle.job.specs.Lines.{cut}
 

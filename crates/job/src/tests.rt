@@ -181,6 +181,6 @@ fn a_report_is_printed(rt: HostRuntime) -> Result<(), Fail> {
         steps: 4,
     };
     let bytes = print(rt.alloc(), &head, b"7\n")?;
-    assert!(rt; bytes.as_slice() == b"V,1,-7,6,1,4\n7\n");
+    assert!(rt; bytes.as_slice() == b"V,1,-7,6,1,4\n7\n".as_slice());
     Ok(())
 }

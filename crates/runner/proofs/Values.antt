@@ -1,6 +1,6 @@
 -- Lawful values, one after the other.
-use Rattle.std.proofs.Common.{◌≡◌, ℕ, ◌+◌, ◌%◌, ◌^◌, ◌<◌, ◌≤◌, Bool, true, false, not, ◌&&◌, ◌||◌, eqb, ltb, List, ◌∷◌, length, get_or, drop, sym, refl, ap, ◌∙◌}
-use lib.Ieee.{binary32, of_bits, is_nan}
+use Rattle.std.proofs.Common.{◌≡◌, ℕ, ◌+◌, ◌%◌, ◌^◌, ◌<◌, ◌≤◌, true, false, not, ◌&&◌, ◌||◌, eqb, List, length, get_or, drop, sym, ap, ◌∙◌}
+use lib.Ieee.{binary32}
 use lib.Ieee.Bits.{nan_bits_is, nan_bits_above}
 use Rattle.std.proofs.lemmas.List.{drop_more, drop_all}
 use Rattle.std.proofs.lemmas.Bool.{lt-ltb}

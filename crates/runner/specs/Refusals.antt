@@ -1,6 +1,5 @@
 -- The numbers that hosts know refusals by, and what they name.
 use Rattle.std.specs.Prelude.{ℕ}
-use Rattle.checker.specs.declared.refusal.Refusal.{Refusal}
 use Rattle.checker.specs.Questions.{question_number}
 use Rattle.runner.specs.declared.refusal.OpenRefusal.{OpenRefusal}
 use Rattle.runner.specs.declared.refusal.OpenRefusal.TheVariants.{Check, CellLimit, Inputs}

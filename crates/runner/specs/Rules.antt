@@ -1,5 +1,5 @@
 -- The rules: what begins at each node, and what each frame does with what it is handed.
-use Rattle.std.specs.Prelude.{◌≡◌, ℕ, ◌-◌, Bool, cond, not, ◌&&◌, ◌||◌, List, [], ◌∷◌, ◌++◌, pos, Some, None, Option, ◌==◌}
+use Rattle.std.specs.Prelude.{◌≡◌, ℕ, ◌-◌, cond, not, ◌&&◌, ◌||◌, List, ◌∷◌, ◌++◌, pos, Some, None, Option, ◌==◌}
 use Rattle.std.specs.List.{slice_get}
 use Rattle.memories.specs.declared.value.Value.{Value}
 use Rattle.checker.specs.declared.node.Node.{Node}
@@ -11,7 +11,7 @@ use Rattle.runner.specs.declared.frame.Signal.TheVariants.{Gives, Done}
 use Rattle.runner.specs.declared.trap.Trap.{Trap}
 use Rattle.runner.specs.declared.trap.Trap.TheVariants.{OutputFull, TooDeep, NoRule}
 use Rattle.runner.specs.declared.verdict.Verdict.{Verdict}
-use Rattle.runner.specs.declared.verdict.Verdict.TheVariants.{Running, Ended, Trapped}
+use Rattle.runner.specs.declared.verdict.Verdict.TheVariants.{Ended, Trapped}
 use Rattle.runner.specs.Newest.{room}
 use Rattle.runner.specs.Printed.{int_text, line_of, newline, output_fits}
 use Rattle.runner.specs.State.{Core, World}

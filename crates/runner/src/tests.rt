@@ -87,7 +87,7 @@ fn prints_in_four_steps(rt: HostRuntime) {
     assert_eq!(rt; session.steps(), 4);
     assert_eq!(rt; session.verdict().number(), 1);
     assert_eq!(rt; session.verdict().value(), 0);
-    assert_eq!(rt; session.output(), b"7\n");
+    assert_eq!(rt; session.output(), b"7\n".as_slice());
 }
 
 #[test]

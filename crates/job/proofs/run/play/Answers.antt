@@ -1,4 +1,4 @@
-use Rattle.std.proofs.Common.{refl, ap, ◌∙◌, arith}
+use Rattle.std.proofs.Common.{refl, ap, arith}
 use Rattle.runner.specs.State.{State}
 use Rattle.job.specs.Jobs.{fresh}
 use Rattle.job.specs.Meant.{meant}

@@ -1,4 +1,4 @@
-use Rattle.std.proofs.Common.{◌≡◌, length, take, drop}
+use Rattle.std.proofs.Common.{◌≡◌, length, take}
 use Rattle.runner.specs.Newest.{held}
 use Rattle.runner.specs.State.{scene}
 use Rattle.runner.specs.Run.{settles}

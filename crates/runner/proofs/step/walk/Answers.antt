@@ -1,4 +1,4 @@
-use Rattle.std.proofs.Common.{◌≡◌, take, sym, refl, ap, ◌∙◌, arith}
+use Rattle.std.proofs.Common.{take, sym, refl, ap, ◌∙◌, arith}
 use Rattle.runner.specs.State.{State, view}
 use Rattle.runner.specs.Run.{stepped, running}
 use Rattle.runner.proofs.Runs.{still, counts, ran_none, ran_more, ran_past}

@@ -1,4 +1,4 @@
-use Rattle.std.proofs.Common.{◌≡◌, ◌<◌, length, refl, arith}
+use Rattle.std.proofs.Common.{◌<◌, length, refl, arith}
 use Rattle.std.proofs.lemmas.List.{take_more_set}
 use Rattle.job.proofs.Held.{room, full}
 use Rattle.job.proofs.rows.Rows.push.Goals as goal

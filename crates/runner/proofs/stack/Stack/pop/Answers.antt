@@ -1,4 +1,4 @@
-use Rattle.std.proofs.Common.{◌≡◌, ◌<◌, ◌≤◌, length, arith, rules}
+use Rattle.std.proofs.Common.{◌<◌, ◌≤◌, length, arith}
 use Rattle.runner.proofs.Held.{pop_newest, pop_older}
 use Rattle.runner.proofs.stack.Stack.pop.Goals as goal
 

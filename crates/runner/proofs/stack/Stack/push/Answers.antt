@@ -1,4 +1,4 @@
-use Rattle.std.proofs.Common.{◌≡◌, length, sym, refl, rules}
+use Rattle.std.proofs.Common.{sym}
 use Rattle.runner.proofs.Held.{room_yes, room_no, push_room, push_full}
 use Rattle.runner.proofs.stack.Stack.push.Goals as goal
 
