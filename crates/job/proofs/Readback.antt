@@ -5,7 +5,7 @@ use Rattle.std.specs.Char.{is_ascii_digit}
 use Rattle.std.specs.Str.{all_ascii_digits}
 use Rattle.checker.specs.declared.node.Node.{Node}
 use Rattle.memories.specs.declared.value.Value.{Value}
-use Rattle.std.specs.List.{AllByRecursion as All}
+use Rattle.std.specs.List.{AllByRecursion}
 use Rattle.std.proofs.lemmas.Fmt.{decimal_nonempty, length-decimal-le, digits_decimal, digits_value-decimal}
 use Rattle.std.proofs.lemmas.Str.Parse.{IsNumeralModel, numerals_by_value, tells_all_ascii_digits}
 use Rattle.std.proofs.lemmas.Bool.{and_parts, cond-true, cond-false, eq-eqb, ne_eqb, le-leb, leb-true, lt-ltb}
@@ -121,7 +121,7 @@ module _ (s : SheetMeaning) (n : Node) (fit : none_above node_largest (node_fiel
 abbrev with_nodes : SheetMeaning → List Node → SheetMeaning
 with_nodes s ns = record { cells = s.cells; steps = s.steps; inputs = s.inputs; table = s.table ++ ns }
 
-nodes_back : (s : SheetMeaning) (ns : List Node) → All (λ n. none_above node_largest (node_fields n) ≡ true) ns → length s.table + length ns ≤ 4096 → later_lines s (cut 10 (nodes_text ns)) ≡ Ok (with_nodes s ns)
+nodes_back : (s : SheetMeaning) (ns : List Node) → AllByRecursion (λ n. none_above node_largest (node_fields n) ≡ true) ns → length s.table + length ns ≤ 4096 → later_lines s (cut 10 (nodes_text ns)) ≡ Ok (with_nodes s ns)
 nodes_back s [] fit h = ap (λ (t : List Node). Ok (record { cells = s.cells; steps = s.steps; inputs = s.inputs; table = t })) (sym (append-nil s.table))
 nodes_back s (n ∷ ns) fit h =
     let more = length_push s.table n in
@@ -146,7 +146,7 @@ module _ (s : SheetMeaning) (v : Value) (fit : none_above input_largest (input_f
 abbrev with_inputs : SheetMeaning → List Value → SheetMeaning
 with_inputs s vs = record { cells = s.cells; steps = s.steps; inputs = s.inputs ++ vs; table = s.table }
 
-inputs_back : (s : SheetMeaning) (vs : List Value) (rest : List ℕ) → is_empty s.table ≡ true → All (λ v. none_above input_largest (input_fields v) ≡ true) vs → length s.inputs + length vs ≤ 64 → later_lines s (cut 10 (inputs_text vs rest)) ≡ later_lines (with_inputs s vs) (cut 10 rest)
+inputs_back : (s : SheetMeaning) (vs : List Value) (rest : List ℕ) → is_empty s.table ≡ true → AllByRecursion (λ v. none_above input_largest (input_fields v) ≡ true) vs → length s.inputs + length vs ≤ 64 → later_lines s (cut 10 (inputs_text vs rest)) ≡ later_lines (with_inputs s vs) (cut 10 rest)
 inputs_back s [] rest none fit h = ap (λ (i : List Value). later_lines (record { cells = s.cells; steps = s.steps; inputs = i; table = s.table }) (cut 10 rest)) (sym (append-nil s.inputs))
 inputs_back s (v ∷ vs) rest none fit h =
     let more = length_push s.inputs v in

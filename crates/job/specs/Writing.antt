@@ -1,6 +1,6 @@
 -- A sheet's text as it is written.
 use Rattle.std.specs.Prelude.{◌≡◌, ℕ, ◌≤◌, true, List, [], ◌∷◌, ◌++◌, length, Ok, decimal, Result}
-use Rattle.std.specs.List.{AllByRecursion as All}
+use Rattle.std.specs.List.{AllByRecursion}
 use Rattle.checker.specs.declared.node.Node.{Node}
 use Rattle.memories.specs.declared.value.Value.{Value}
 use Rattle.job.specs.declared.sheet.SheetRefusal.{SheetRefusal}
@@ -36,8 +36,8 @@ sheet_text s = line_before 67 (s.cells ∷ s.steps ∷ []) (inputs_text s.inputs
 -- a sheet within the limits of the format
 pub record Writable (s : SheetMeaning) : Type 0 where
   pub job : usable (s.cells ∷ s.steps ∷ []) ≡ true
-  pub inputs : All (λ v. none_above input_largest (input_fields v) ≡ true) s.inputs
-  pub table : All (λ n. none_above node_largest (node_fields n) ≡ true) s.table
+  pub inputs : AllByRecursion (λ v. none_above input_largest (input_fields v) ≡ true) s.inputs
+  pub table : AllByRecursion (λ n. none_above node_largest (node_fields n) ≡ true) s.table
   pub few_inputs : length s.inputs ≤ 64
   pub few_nodes : length s.table ≤ 4096
 
