@@ -1,16 +1,16 @@
 -- The questions about the whole table, node after node.
-use Rattle.std.proofs.Common.{◌≡◌, ℕ, zero, suc, ◌+◌, ◌-◌, ◌<◌, ◌≤◌, Bool, true, false, cond, ◌&&◌, eqb, leb, ◌⊎◌, List, [], ◌∷◌, length, get_or, drop, Ok, Err, Result, sym, refl, ◌∙◌, inl, inr, add-zero, arith}
-use Rattle.std.proofs.lemmas.Bool.{ne_eqb, cond-true, cond-false, cases_eq, cases_Bool, and_parts, leb-true}
+use Rattle.std.proofs.Common.{◌≡◌, ℕ, zero, suc, ◌+◌, ◌-◌, ◌<◌, ◌≤◌, Bool, true, false, cond, ◌&&◌, eqb, ltb, leb, ◌⊎◌, List, [], ◌∷◌, length, get_or, drop, Ok, Err, Result, sym, refl, ◌∙◌, inl, inr, add-zero, arith}
+use Rattle.std.proofs.lemmas.Bool.{lt-ltb, ne_eqb, cond-true, cond-false, cases_eq, cases_Bool, and_parts, leb-true}
 use Rattle.std.proofs.lemmas.List.{at_drop_more, at_drop_all}
 use Rattle.checker.specs.declared.node.Node.{Node}
 use Rattle.checker.specs.declared.shape.Class.{Class}
 use Rattle.checker.specs.declared.refusal.Refusal.{Refusal}
-use Rattle.checker.specs.Tree.{node_at, blank, Linked, left}
+use Rattle.checker.specs.Tree.{tree, node_at, blank, Linked, left}
 use Rattle.checker.specs.declared.refusal.Question.{Question}
 use Rattle.checker.specs.declared.refusal.Question.TheVariants.{NodeForm}
 use Rattle.checker.specs.Questions.{refuse, then}
-use Rattle.checker.specs.Form.{of_class, link_fits, chain_grows, chain_fits, ask_from, ask_each, hit, times_linked, lower, links_fit, root_fits, shape_fits, shape_of, node_fits, sized, formed}
-use Rattle.checker.proofs.Trees.{up_within, up_room, link_up, left_link}
+use Rattle.checker.specs.Form.{of_class, link_fits, chain_grows, chain_fits, ask_from, ask_each, hit, times_linked, lower, lowest_deep, links_fit, root_fits, shape_fits, shape_of, node_fits, sized, formed}
+use Rattle.checker.proofs.Trees.{tree_at, up_within, up_room, link_up, left_link}
 
 module _ (t : List Node) (class : Class) where
   -- one item of a chain, grown with so much room
@@ -170,3 +170,8 @@ sized_parts len places e =
     let p = and_parts (leb 1 len) (leb len 4096 && leb len places) e in
     let q = and_parts (leb len 4096) (leb len places) p.1 in
     (leb-true _ _ p.0, leb-true _ _ q.0, leb-true _ _ q.1)
+
+-- a node that is too deep is the lowest below itself
+pub deep_here : (t : List Node) (n depth : ℕ) → Linked t → (n ≡ 0 → ⊥) → n ≤ length t → 200 < depth → n ≡ lowest_deep depth (tree t n)
+deep_here t n depth linked nz w deep =
+    let e : ltb 200 depth ≡ true = lt-ltb _ _ deep in rw (tree_at t linked n nz w, e) refl

@@ -158,6 +158,7 @@ fn lower_of(x: u16, y: u16) -> u16
 }
 
 // The lowest node from this link on that is too deep, or 0.
+#[tactic(auto, using(crate::proofs::Forms::deep_here))]
 fn lowest_deep(table: &[Node], link: u16, depth: u8) -> u16
     requires linked { Linked table.now }
     requires within { link ≤ length table.now }

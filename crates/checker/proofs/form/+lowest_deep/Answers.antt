@@ -1,5 +1,5 @@
-use Rattle.std.proofs.Common.{◌≡◌, true, false, ltb, length, sym, refl, ◌∙◌, ap₂, arith}
-use Rattle.std.proofs.lemmas.Bool.{lt-ltb, le-ltb}
+use Rattle.std.proofs.Common.{◌≡◌, false, ltb, length, sym, refl, ◌∙◌, ap₂, arith}
+use Rattle.std.proofs.lemmas.Bool.{le-ltb}
 use Rattle.checker.specs.Form.{lower}
 use Rattle.checker.proofs.Trees.{tree_at, tree_none, less_a, less_b, less_c, less_next, within_a, within_b, within_c, within_next}
 use Rattle.checker.proofs.Forms.{lower_within}
@@ -8,14 +8,6 @@ use Rattle.checker.proofs.form.+lowest_deep.Goals as goal
 pub returns-then-link-eq0 : goal.returns-then-link-eq0
 returns-then-link-eq0 t c =
     record { value = rw (tree_none c.args.table.now c.args.link c.if-link-eq0.true) refl; within = omega arith }
-
-pub returns-then-depth-gt-DEEPEST : goal.returns-then-depth-gt-DEEPEST
-returns-then-depth-gt-DEEPEST t c =
-    let deep : ltb 200 c.args.depth ≡ true = lt-ltb _ _ c.if-depth-gt-DEEPEST.true in
-    record {
-      value = rw (tree_at c.args.table.now c.requires.linked c.args.link c.if-link-eq0.false c.requires.within, deep) refl;
-      within = c.requires.within;
-    }
 
 pub lowest_deep-a-requires : goal.lowest_deep-a-requires
 lowest_deep-a-requires t c =
@@ -39,7 +31,7 @@ lowest_deep-next-requires t c =
 
 pub returns : goal.returns
 returns t c =
-    let shallow : ltb 200 c.args.depth ≡ false = le-ltb _ _ c.if-depth-gt-DEEPEST.false in
+    let shallow : ltb 200 c.args.depth ≡ false = le-ltb _ _ (omega arith) in
     let one = c.lower_of.ensures ∙ ap₂ lower c.lowest_deep-b.ensures.value c.lowest_deep-c.ensures.value in
     let two = c.lower_of-2.ensures ∙ ap₂ lower c.lowest_deep-a.ensures.value one in
     let three = c.lower_of-3.ensures ∙ ap₂ lower two c.lowest_deep-next.ensures.value in
