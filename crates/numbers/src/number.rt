@@ -13,7 +13,7 @@ pub trait Number: Copy {
 
     ghost meaning: { Arithmetic Self };
 
-    // The constants, for contracts over every kind: these can cite what a method answers alone.
+    // The constants as answers, whose clauses tie them to the meaning.
     fn type_code() -> u8
         ensures { result ≡ meaning.code };
 
