@@ -57,7 +57,8 @@ pub fn check_table(
     ask_size(table.len(), notes.len())?;
     let result = judge_table(table, notes, shelf, names);
     shelf.count = 0;
-    if result.is_err() {
+    let refused = result.is_err();
+    if refused {
         clear_notes(notes, table.len());
     }
     result

@@ -1,3 +1,4 @@
+use Rattle.std.proofs.Common.{◌≡◌, true, false, is_err}
 use Rattle.checker.proofs.Exprs.{broken}
 use Rattle.checker.proofs.Whole.{size_yes, size_refused, judged_no, judged_yes}
 use Rattle.checker.proofs.check.check_table.Goals as goal
@@ -9,14 +10,16 @@ returns-in_err-ask_size c =
 pub judge_table-result-requires : goal.judge_table-result-requires
 judge_table-result-requires c = size_yes c.args.table.now c.args.notes.now c.in_ok-ask_size.ensures
 
-pub returns-then-is_err : goal.returns-then-is_err
-returns-then-is_err c =
+pub returns-then-refused : goal.returns-then-refused
+returns-then-refused c =
+    let no : true ≡ is_err c.judge_table-result.result = cc in
     judged_no c.args.table.now c.args.notes.now c.judge_table-result.new.notes
     (size_yes c.args.table.now c.args.notes.now c.in_ok-ask_size.ensures) c.judge_table-result.ensures.beyond
-    c.judge_table-result.result c.clear_notes.new.notes c.judge_table-result.ensures.result c.if-is_err.ensures.value c.judge_table-result.auto.notes c.clear_notes.ensures
+    c.judge_table-result.result c.clear_notes.new.notes c.judge_table-result.ensures.result no c.judge_table-result.auto.notes c.clear_notes.ensures
 
-pub returns-else-is_err : goal.returns-else-is_err
-returns-else-is_err c =
+pub returns-else-refused : goal.returns-else-refused
+returns-else-refused c =
+    let yes : false ≡ is_err c.judge_table-result.result = cc in
     judged_yes c.args.table.now c.args.notes.now c.judge_table-result.new.notes
     (size_yes c.args.table.now c.args.notes.now c.in_ok-ask_size.ensures) c.judge_table-result.ensures.beyond
-    c.judge_table-result.result c.judge_table-result.ensures.result c.if-is_err.ensures.value
+    c.judge_table-result.result c.judge_table-result.ensures.result yes
