@@ -1,5 +1,5 @@
 -- What the two kinds of number and their operators mean: integers by ℤ, wrapped to 32 bits, and floats by IEEE 754's binary32.
-use Rattle.std.specs.Prelude.{ℕ, Bool, false, cond, not, ◌||◌, ℤ, pos, negsuc, ◌+ℤ◌, ◌-ℤ◌, ◌*ℤ◌, neg_ℤ, Some, None, Option, ◌==◌, int_div, Float}
+use Rattle.std.specs.Prelude.{ℕ, Bool, false, if◌then◌else◌, not, ◌||◌, ℤ, pos, negsuc, ◌+ℤ◌, ◌-ℤ◌, ◌*ℤ◌, neg_ℤ, Some, None, Option, ◌==◌, int_div, Float}
 use Rattle.std.specs.Int.Signed.{lt_z}
 use Rattle.std.specs.Float.Ieee as Ieee
 use Rattle.std.specs.Float.{binary32}
@@ -42,7 +42,7 @@ ints = record {
   sum = λ a b. int_wrap w32 (a +ℤ b);
   difference = λ a b. int_wrap w32 (a -ℤ b);
   product = λ a b. int_wrap w32 (a *ℤ b);
-  quotient = λ a b. cond (eq_z b (pos 0)) None (Some (int_wrap w32 (int_div a b)));
+  quotient = λ a b. if eq_z b (pos 0) then None else Some (int_wrap w32 (int_div a b));
   negative = λ a. int_wrap w32 (neg_ℤ a);
   equal = eq_z;
   less = lt_z;

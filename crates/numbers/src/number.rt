@@ -1,5 +1,5 @@
 // The two kinds of number.
-ghost use Rattle.std.specs.Prelude.{◌≡◌};
+ghost use Rattle.std.specs.Prelude.{◌≡◌, ℕ, refl};
 ghost use Rattle.numbers.specs.Arithmetic.{Arithmetic, ints, floats};
 
 use std::num::{f32_from_bits_with_nan, f32_to_bits_with_nan};
@@ -9,16 +9,13 @@ pub trait Number: Copy {
     // the type of its values, and the word of its zero
     const TYPE: u8;
 
+    ghost TYPE: { ℕ };
+
     const ZERO: u32;
 
+    ghost ZERO: { ℕ };
+
     ghost meaning: { Arithmetic Self };
-
-    // The constants as answers, whose clauses tie them to the meaning.
-    fn type_code() -> u8
-        ensures { result ≡ meaning.code };
-
-    fn zero_bits() -> u32
-        ensures { result ≡ meaning.zero };
 
     fn of_word(word: u32) -> Self
         ensures { result ≡ meaning.value word };
@@ -47,22 +44,27 @@ pub trait Number: Copy {
 
     fn less(self, other: Self) -> bool
         ensures { result ≡ meaning.less self other };
+
+    // Laws: the constants are those of the meaning.
+    ghost code: { TYPE ≡ meaning.code };
+
+    ghost zero: { ZERO ≡ meaning.zero };
 }
 
 impl Number for i32 {
     const TYPE: u8 = 2;
 
+    ghost TYPE = { 2 };
+
     const ZERO: u32 = 0;
+
+    ghost ZERO = { 0 };
 
     ghost meaning = { ints };
 
-    fn type_code() -> u8 {
-        Self::TYPE
-    }
+    ghost code = { refl };
 
-    fn zero_bits() -> u32 {
-        Self::ZERO
-    }
+    ghost zero = { refl };
 
     fn of_word(word: u32) -> i32 {
         word.cast_signed()
@@ -108,17 +110,17 @@ impl Number for i32 {
 impl Number for f32 {
     const TYPE: u8 = 3;
 
+    ghost TYPE = { 3 };
+
     const ZERO: u32 = 0;
+
+    ghost ZERO = { 0 };
 
     ghost meaning = { floats };
 
-    fn type_code() -> u8 {
-        Self::TYPE
-    }
+    ghost code = { refl };
 
-    fn zero_bits() -> u32 {
-        Self::ZERO
-    }
+    ghost zero = { refl };
 
     fn of_word(word: u32) -> f32 {
         f32_from_bits_with_nan(word)
