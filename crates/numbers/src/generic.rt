@@ -13,12 +13,12 @@ fn compare<N: Number>(comparison: Comparison, left: N, right: N) -> bool
     ensures { result ≡ compared N.Number.meaning comparison left right }
 {
     match comparison {
-        Comparison::Equal => left.equals(right),
-        Comparison::NotEqual => !left.equals(right),
-        Comparison::Less => left.less(right),
-        Comparison::LessOrEqual => left.less(right) || left.equals(right),
-        Comparison::Greater => right.less(left),
-        Comparison::GreaterOrEqual => right.less(left) || right.equals(left),
+        Comparison::Equal => left == right,
+        Comparison::NotEqual => left != right,
+        Comparison::Less => left < right,
+        Comparison::LessOrEqual => left <= right,
+        Comparison::Greater => right < left,
+        Comparison::GreaterOrEqual => right <= left,
     }
 }
 
