@@ -2,7 +2,7 @@
 //
 // Nodes are numbered from 1. `a`, `b` and `c` name children and `next` the
 // following item of a chain; 0 is no link.
-#[derive(Clone, Copy)]
+#[derive(Clone, Copy, Debug, Default, PartialEq, Eq)]
 pub struct Node {
     pub kind: u8,
     pub ty: u8,

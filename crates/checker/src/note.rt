@@ -1,5 +1,5 @@
 // What the check notes of a node.
-#[derive(Clone, Copy)]
+#[derive(Clone, Copy, Debug, Default, PartialEq, Eq)]
 pub struct Note {
     // the type of an expression: 1 boolean, 2 int, 3 float, 7 a call without a value
     pub ty: u8,

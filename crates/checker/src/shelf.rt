@@ -9,7 +9,7 @@ use crate::search::Keyed;
 
 pub const SHELF_PLACES: usize = 512;
 
-#[derive(Clone, Copy)]
+#[derive(Clone, Copy, Debug, Default, PartialEq, Eq)]
 pub struct Name {
     pub name: u32,
     // the node that declares it, 0 for a built-in

@@ -8,8 +8,6 @@ use crate::value::Value;
 pub trait Memory {
     ghost cells: { Self → List (Option Value) };
 
-    ghost values: { (m : Self) → AllTyped (cells m) };
-
     fn size(&self) -> usize
         ensures { result ≡ length (cells self.now) };
 
@@ -25,4 +23,7 @@ pub trait Memory {
     fn clear(&mut self, cell: usize) -> bool
         ensures says { result ≡ inside (cells self.old) cell }
         ensures after { cells self.new ≡ (if result then slice_set (cells self.old) cell None else cells self.old) };
+
+    // A law: every value has a type from 1 to 6.
+    ghost values: { (m : Self) → AllTyped (cells m) };
 }

@@ -1,5 +1,5 @@
 // A memory over lent records: a record for each cell, unset where its type is none.
-ghost use Rattle.std.specs.Prelude.{◌≡◌, if◌then◌else◌, Some, None, slice_set};
+ghost use Rattle.std.specs.Prelude.{◌≡◌, if◌then◌else◌, length, Some, None, nat_lt, slice_set};
 ghost use Rattle.memories.specs.Cells.{writable, inside, record_cells, cleared};
 ghost use Rattle.memories.specs.Typed.{records_typed};
 
@@ -19,6 +19,20 @@ impl<'a> CellRecords<'a> {
     {
         CellRecords { records }
     }
+
+    // Says no outside, and then leaves all as it is.
+    // By index, since `get_mut` of a slice promises nothing of what the slice holds afterwards.
+    fn put(&mut self, cell: usize, value: Value) -> bool
+        ensures says { result ≡ nat_lt cell (length self.old.records.now) }
+        ensures records { self.new.records.now ≡ (if result then slice_set self.old.records.now cell value else self.old.records.now) }
+        ensures lent { self.new.records.ghost_name ≡ self.old.records.ghost_name }
+    {
+        let inside = cell < self.records.len();
+        if inside {
+            self.records[cell] = value;
+        }
+        inside
+    }
 }
 
 impl Memory for CellRecords<'_> {
@@ -31,10 +45,7 @@ impl Memory for CellRecords<'_> {
     }
 
     fn read(&self, cell: usize) -> Option<Value> {
-        if cell >= self.records.len() {
-            return None;
-        }
-        seen(self.records[cell])
+        seen(*self.records.get(cell)?)
     }
 
     fn write(&mut self, cell: usize, value: Value) -> bool
@@ -43,11 +54,7 @@ impl Memory for CellRecords<'_> {
         ensures records { self.new.records.now ≡ (if result then slice_set self.old.records.now cell value else self.old.records.now) }
         ensures lent { self.new.records.ghost_name ≡ self.old.records.ghost_name }
     {
-        if cell >= self.records.len() || !is_type(value.ty) {
-            return false;
-        }
-        self.records[cell] = value;
-        true
+        is_type(value.ty) && self.put(cell, value)
     }
 
     fn clear(&mut self, cell: usize) -> bool
@@ -56,10 +63,6 @@ impl Memory for CellRecords<'_> {
         ensures records { self.new.records.now ≡ (if result then slice_set self.old.records.now cell cleared else self.old.records.now) }
         ensures lent { self.new.records.ghost_name ≡ self.old.records.ghost_name }
     {
-        if cell >= self.records.len() {
-            return false;
-        }
-        self.records[cell] = Value { ty: 0, word: 0 };
-        true
+        self.put(cell, Value::default())
     }
 }

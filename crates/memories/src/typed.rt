@@ -7,7 +7,7 @@ use crate::value::Value;
 pub fn is_type(ty: u8) -> bool
     ensures { result ≡ typed ty }
 {
-    ty >= 1 && ty <= 6
+    matches!(ty, 1..=6)
 }
 
 pub fn seen(place: Value) -> Option<Value>

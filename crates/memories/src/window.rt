@@ -40,6 +40,7 @@ impl<M: Memory> Window<M> {
     }
 }
 
+// Write and clear match by hand: `is_some_and` does not say that a closure that was not called left the memory as it was.
 impl<M: Memory> Memory for Window<M> {
     ghost cells = { λ w. drop w.shift (M.Memory.cells w.memory) };
 
@@ -50,10 +51,7 @@ impl<M: Memory> Memory for Window<M> {
     }
 
     fn read(&self, cell: usize) -> Option<Value> {
-        match self.below(cell) {
-            Some(below) => self.memory.read(below),
-            None => None,
-        }
+        self.memory.read(self.below(cell)?)
     }
 
     fn write(&mut self, cell: usize, value: Value) -> bool

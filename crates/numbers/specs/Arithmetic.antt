@@ -1,10 +1,9 @@
 -- What the two kinds of number and their operators mean: integers by ℤ, wrapped to 32 bits, and floats by IEEE 754's binary32.
-use Rattle.std.specs.Prelude.{ℕ, Bool, false, cond, not, ◌||◌, ℤ, pos, negsuc, ◌+ℤ◌, ◌-ℤ◌, ◌*ℤ◌, neg_ℤ, Some, None, Option, ◌==◌, int_div, Float}
-use Rattle.std.specs.Int.Signed.{lt_z}
+use Rattle.std.specs.Prelude.{ℕ, Bool, if◌then◌else◌, not, ◌||◌, ℤ, pos, ◌+ℤ◌, ◌-ℤ◌, ◌*ℤ◌, neg_ℤ, Some, None, Option, int_div, int_lt, Float}
+use Rattle.std.specs.Ordering.{int_eq}
 use Rattle.std.specs.Float.Ieee as Ieee
 use Rattle.std.specs.Float.{binary32}
-use Rattle.std.proofs.Common.{to_z, of_z}
-use Rattle.std.specs.Int.{int_wrap, w32}
+use Rattle.std.specs.Int.{cast_signed, cast_unsigned, int_wrap, w32}
 use Rattle.numbers.specs.declared.operator.Calculation.{Calculation}
 use Rattle.numbers.specs.declared.operator.Calculation.TheVariants.{Add, Subtract, Multiply, Divide}
 use Rattle.numbers.specs.declared.operator.Comparison.{Comparison}
@@ -25,27 +24,20 @@ pub record Arithmetic (N : Type 0) : Type 0 where
   pub equal : N → N → Bool
   pub less : N → N → Bool
 
--- two integers are the same
-abbrev pub eq_z : ℤ → ℤ → Bool
-eq_z (pos a) (pos b) = a == b
-eq_z (pos a) (negsuc b) = false
-eq_z (negsuc a) (pos b) = false
-eq_z (negsuc a) (negsuc b) = a == b
-
 -- Integers of 32 bits in two's complement. Results wrap, a quotient is cut toward zero, and there is none by zero.
 abbrev pub ints : Arithmetic ℤ
 ints = record {
   code = 2;
   zero = 0;
-  value = to_z w32;
-  bits = of_z w32;
+  value = cast_signed w32;
+  bits = cast_unsigned w32;
   sum = λ a b. int_wrap w32 (a +ℤ b);
   difference = λ a b. int_wrap w32 (a -ℤ b);
   product = λ a b. int_wrap w32 (a *ℤ b);
-  quotient = λ a b. cond (eq_z b (pos 0)) None (Some (int_wrap w32 (int_div a b)));
+  quotient = λ a b. if int_eq b (pos 0) then None else Some (int_wrap w32 (int_div a b));
   negative = λ a. int_wrap w32 (neg_ℤ a);
-  equal = eq_z;
-  less = lt_z;
+  equal = int_eq;
+  less = int_lt;
 }
 
 -- IEEE 754's single floats. The word of every NaN is 0x7FC00000.

@@ -2,8 +2,7 @@
 use Rattle.std.specs.Prelude.{◌≡◌, ℕ, ◌+◌, ◌-◌, ◌*◌, ◌%◌, ◌^◌, ◌<◌, ◌≤◌, Bool, true, false, ◌⊎◌, ℤ, pos, negsuc, Some, None, codes, is_nan, Float}
 use Rattle.std.specs.Float.{nan, fin, binary32}
 use Rattle.std.specs.Float.Ieee.{up, down, of_int}
-use Rattle.std.specs.Int.{w32}
-use Rattle.std.proofs.Common.{to_z}
+use Rattle.std.specs.Int.{cast_signed, w32}
 use Rattle.std.specs.Str.Parse.{signed_digits_value}
 use Rattle.numbers.specs.declared.operator.Comparison.{Comparison}
 use Rattle.numbers.specs.declared.operator.Comparison.TheVariants.{Equal, NotEqual, Less, LessOrEqual, Greater, GreaterOrEqual}
@@ -30,7 +29,7 @@ ThousandthsAreNearest = (s : Bool) (m : ℕ) (e : ℤ) → TheNearest (m * up e 
 
 -- the digits that are printed of an int are read as that int
 abbrev pub IntsReadBack : Type 0
-IntsReadBack = (word : ℕ) → word < 2 ^ 32 → signed_digits_value 10 (int_text word) ≡ to_z w32 word
+IntsReadBack = (word : ℕ) → word < 2 ^ 32 → signed_digits_value 10 (int_text word) ≡ cast_signed w32 word
 
 -- what is not a number has one word, and a number's word is kept when it is read and stored again
 pub record OneWordEach : Type 0 where

@@ -1,5 +1,5 @@
 -- The kinds of the nodes that stand for operators.
-use Rattle.std.specs.Prelude.{◌≡◌, ℕ, Some, None, Option, ◌≢◌}
+use Rattle.std.specs.Prelude.{◌≡◌, ℕ, Ok, Err, Result, ◌≢◌}
 use Rattle.numbers.specs.declared.operator.Calculation.{Calculation}
 use Rattle.numbers.specs.declared.operator.Calculation.TheVariants.{Add, Subtract, Multiply, Divide}
 use Rattle.numbers.specs.declared.operator.Comparison.{Comparison}
@@ -36,6 +36,6 @@ prefix_kind Minus = 40
 prefix_kind Not = 41
 
 -- a kind is read as the operator that has it, and as none where none has it
-abbrev pub Decodes : {O : Type 0} → (O → ℕ) → ℕ → Option O → Type 0
-Decodes kind_of kind (Some o) = kind_of o ≡ kind
-Decodes {O} kind_of kind None = (o : O) → kind_of o ≢ kind
+abbrev pub Decodes : {O E : Type 0} → (O → ℕ) → ℕ → Result O E → Type 0
+Decodes kind_of kind (Ok o) = kind_of o ≡ kind
+Decodes {O} kind_of kind (Err e) = (o : O) → kind_of o ≢ kind

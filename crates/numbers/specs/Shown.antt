@@ -1,12 +1,12 @@
 -- What a text shows.
-use Rattle.std.specs.Prelude.{ℕ, List, [], ◌∷◌, drop}
+use Rattle.std.specs.Prelude.{ℕ, List, [], ◌∷◌}
 use Rattle.numbers.specs.declared.text.Ending.{Ending}
 use Rattle.numbers.specs.declared.text.Ending.TheVariants.{Nothing, Newline}
 use Rattle.numbers.specs.declared.text.Text.{Text}
 
--- the bytes from `start` on
+-- its bytes
 abbrev pub shown : Text → List ℕ
-shown t = drop t.start t.bytes
+shown t = t.chars.bytes
 
 -- what stands behind a value
 abbrev pub ending_text : Ending → List ℕ

@@ -1,11 +1,13 @@
 // What an operator answers.
+use memories::Value;
 
-#[derive(Clone, Copy)]
-pub enum Answer {
-    // a value: 1 is a boolean, 2 an int, 3 a float
-    Gives { ty: u8, word: u32 },
+// Why there is no value.
+#[derive(Clone, Copy, Debug, PartialEq, Eq)]
+pub enum NoAnswer {
     // an int was to be divided by zero
     ZeroDivisor,
     // the operator has no rule for values of this type
     NoRule,
 }
+
+pub type Answer = Result<Value, NoAnswer>;

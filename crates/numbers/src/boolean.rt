@@ -1,15 +1,19 @@
 // The operators on booleans, whose words are 0 and 1.
 ghost use Rattle.std.specs.Prelude.{◌≡◌};
-ghost use Rattle.numbers.specs.Booleans.{truth};
-ghost use Rattle.numbers.specs.Applied.{on_booleans, on_boolean};
+ghost use Rattle.numbers.specs.Applied.{says, on_booleans, on_boolean};
 
-use crate::answer::Answer;
+use crate::answer::{Answer, NoAnswer};
 use crate::operator::{Comparison, Operator, Prefix};
+use memories::Value;
 
-pub fn truth_word(holds: bool) -> u32
-    ensures { result ≡ truth holds }
+// A boolean as an answer.
+pub fn boolean(holds: bool) -> Answer
+    ensures { result ≡ says holds }
 {
-    if holds { 1 } else { 0 }
+    Ok(Value {
+        ty: 1,
+        word: u32::from(holds),
+    })
 }
 
 // Two booleans are compared by == and != alone.
@@ -18,15 +22,9 @@ pub fn apply_to_booleans(operator: Operator, left: u32, right: u32) -> Answer
 {
     let same = (left != 0) == (right != 0);
     match operator {
-        Operator::Compare(Comparison::Equal) => Answer::Gives {
-            ty: 1,
-            word: truth_word(same),
-        },
-        Operator::Compare(Comparison::NotEqual) => Answer::Gives {
-            ty: 1,
-            word: truth_word(!same),
-        },
-        _ => Answer::NoRule,
+        Operator::Compare(Comparison::Equal) => boolean(same),
+        Operator::Compare(Comparison::NotEqual) => boolean(!same),
+        _ => Err(NoAnswer::NoRule),
     }
 }
 
@@ -34,10 +32,7 @@ pub fn apply_to_boolean(prefix: Prefix, word: u32) -> Answer
     ensures { result ≡ on_boolean prefix word }
 {
     match prefix {
-        Prefix::Not => Answer::Gives {
-            ty: 1,
-            word: truth_word(word == 0),
-        },
-        _ => Answer::NoRule,
+        Prefix::Not => boolean(word == 0),
+        _ => Err(NoAnswer::NoRule),
     }
 }

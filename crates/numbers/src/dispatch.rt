@@ -2,7 +2,7 @@
 ghost use Rattle.std.specs.Prelude.{◌≡◌};
 ghost use Rattle.numbers.specs.Applied.{applied, prefixed, zero_of};
 
-use crate::answer::Answer;
+use crate::answer::{Answer, NoAnswer};
 use crate::boolean::{apply_to_boolean, apply_to_booleans};
 use crate::generic::{apply_to_number, apply_to_numbers};
 use crate::number::Number;
@@ -16,7 +16,7 @@ pub fn apply(operator: Operator, ty: u8, left: u32, right: u32) -> Answer
         1 => apply_to_booleans(operator, left, right),
         2 => apply_to_numbers::<i32>(operator, left, right),
         3 => apply_to_numbers::<f32>(operator, left, right),
-        _ => Answer::NoRule,
+        _ => Err(NoAnswer::NoRule),
     }
 }
 
@@ -28,7 +28,7 @@ pub fn apply_prefix(prefix: Prefix, ty: u8, word: u32) -> Answer
         1 => apply_to_boolean(prefix, word),
         2 => apply_to_number::<i32>(prefix, word),
         3 => apply_to_number::<f32>(prefix, word),
-        _ => Answer::NoRule,
+        _ => Err(NoAnswer::NoRule),
     }
 }
 
@@ -38,8 +38,8 @@ pub fn zero_word(ty: u8) -> Option<u32>
 {
     match ty {
         1 => Some(0),
-        2 => Some(i32::zero_bits()),
-        3 => Some(f32::zero_bits()),
+        2 => Some(i32::ZERO),
+        3 => Some(f32::ZERO),
         _ => None,
     }
 }

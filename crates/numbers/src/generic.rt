@@ -1,23 +1,24 @@
 // One text of the operators for both kinds of number.
 ghost use Rattle.std.specs.Prelude.{◌≡◌};
 ghost use Rattle.numbers.specs.Arithmetic.{compared, calculated};
-ghost use Rattle.numbers.specs.Applied.{on_numbers, on_number};
+ghost use Rattle.numbers.specs.Applied.{gives, on_numbers, on_number};
 
-use crate::answer::Answer;
-use crate::boolean::truth_word;
+use crate::answer::{Answer, NoAnswer};
+use crate::boolean::boolean;
 use crate::number::Number;
 use crate::operator::{Calculation, Comparison, Operator, Prefix};
+use memories::Value;
 
 fn compare<N: Number>(comparison: Comparison, left: N, right: N) -> bool
     ensures { result ≡ compared N.Number.meaning comparison left right }
 {
     match comparison {
-        Comparison::Equal => left.equals(right),
-        Comparison::NotEqual => !left.equals(right),
-        Comparison::Less => left.less(right),
-        Comparison::LessOrEqual => left.less(right) || left.equals(right),
-        Comparison::Greater => right.less(left),
-        Comparison::GreaterOrEqual => right.less(left) || right.equals(left),
+        Comparison::Equal => left == right,
+        Comparison::NotEqual => left != right,
+        Comparison::Less => left < right,
+        Comparison::LessOrEqual => left <= right,
+        Comparison::Greater => right < left,
+        Comparison::GreaterOrEqual => right <= left,
     }
 }
 
@@ -33,6 +34,16 @@ fn calculate<N: Number>(calculation: Calculation, left: N, right: N) -> Option<N
     }
 }
 
+// A number as an answer.
+fn number<N: Number>(number: N) -> Answer
+    ensures { result ≡ gives N.Number.meaning number }
+{
+    Ok(Value {
+        ty: N::TYPE,
+        word: number.word(),
+    })
+}
+
 // An operator between the words of two numbers of one kind.
 pub fn apply_to_numbers<N: Number>(operator: Operator, left: u32, right: u32) -> Answer
     ensures { result ≡ on_numbers N.Number.meaning operator left right }
@@ -40,17 +51,10 @@ pub fn apply_to_numbers<N: Number>(operator: Operator, left: u32, right: u32) ->
     let a = N::of_word(left);
     let b = N::of_word(right);
     match operator {
-        Operator::Compare(comparison) => Answer::Gives {
-            ty: 1,
-            word: truth_word(compare(comparison, a, b)),
-        },
-        Operator::Calculate(calculation) => match calculate(calculation, a, b) {
-            Some(result) => Answer::Gives {
-                ty: N::type_code(),
-                word: result.word(),
-            },
-            None => Answer::ZeroDivisor,
-        },
+        Operator::Compare(comparison) => boolean(compare(comparison, a, b)),
+        Operator::Calculate(calculation) => {
+            number(calculate(calculation, a, b).ok_or(NoAnswer::ZeroDivisor)?)
+        }
     }
 }
 
@@ -58,16 +62,10 @@ pub fn apply_to_numbers<N: Number>(operator: Operator, left: u32, right: u32) ->
 pub fn apply_to_number<N: Number>(prefix: Prefix, word: u32) -> Answer
     ensures { result ≡ on_number N.Number.meaning prefix word }
 {
-    let number = N::of_word(word);
+    let operand = N::of_word(word);
     match prefix {
-        Prefix::Plus => Answer::Gives {
-            ty: N::type_code(),
-            word: number.word(),
-        },
-        Prefix::Minus => Answer::Gives {
-            ty: N::type_code(),
-            word: number.negated().word(),
-        },
-        Prefix::Not => Answer::NoRule,
+        Prefix::Plus => number(operand),
+        Prefix::Minus => number(operand.negated()),
+        Prefix::Not => Err(NoAnswer::NoRule),
     }
 }

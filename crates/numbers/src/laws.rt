@@ -1,6 +1,6 @@
 // What holds of the definitions that the contracts cite: each contract here is a theorem.
 ghost use Rattle.numbers.specs.Laws.{IntsReadBack, ThousandthsAreNearest, OneWordEach, NanIsUnlikeAll, WorkedExamples};
-ghost use Rattle.std.specs.Prelude.{◌≡◌, codes};
+ghost use Rattle.std.specs.Prelude.{◌≡◌, Ok, codes};
 ghost use Rattle.numbers.specs.Shown.{shown};
 
 use crate::answer::Answer;
@@ -41,7 +41,7 @@ pub struct Examples {
 // The examples, by the definitions and by the code.
 pub fn worked_examples() -> Examples
     ensures defined { WorkedExamples }
-    ensures quotient { result.quotient ≡ Answer.Gives 2 0xFFFF_FFFD }
+    ensures quotient { result.quotient ≡ Ok (record { ty = 2; word = 0xFFFF_FFFD }) }
     ensures turned { result.turned ≡ 0x4B80_0002 }
     ensures text { shown result.text ≡ codes "0.062" }
 {

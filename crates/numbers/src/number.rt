@@ -1,24 +1,23 @@
 // The two kinds of number.
-ghost use Rattle.std.specs.Prelude.{◌≡◌};
+ghost use Rattle.std.specs.Prelude.{◌≡◌, ℕ, ◌||◌, refl};
+ghost use Rattle.std.specs.Ordering.{partial_lt, partial_le};
+ghost use Rattle.std.proofs.Common.{rules};
 ghost use Rattle.numbers.specs.Arithmetic.{Arithmetic, ints, floats};
 
 use std::num::{f32_from_bits_with_nan, f32_to_bits_with_nan};
 
 // A kind of number. `meaning` says what its words and its operators are.
-pub trait Number: Copy {
+pub trait Number: Copy + PartialOrd {
     // the type of its values, and the word of its zero
     const TYPE: u8;
 
+    ghost TYPE: { ℕ };
+
     const ZERO: u32;
 
+    ghost ZERO: { ℕ };
+
     ghost meaning: { Arithmetic Self };
-
-    // The constants as answers, whose clauses tie them to the meaning.
-    fn type_code() -> u8
-        ensures { result ≡ meaning.code };
-
-    fn zero_bits() -> u32
-        ensures { result ≡ meaning.zero };
 
     fn of_word(word: u32) -> Self
         ensures { result ≡ meaning.value word };
@@ -42,27 +41,38 @@ pub trait Number: Copy {
     fn negated(self) -> Self
         ensures { result ≡ meaning.negative self };
 
-    fn equals(self, other: Self) -> bool
-        ensures { result ≡ meaning.equal self other };
+    // Laws: the constants, `==`, `<` and `<=` are those of the meaning.
+    ghost code: { TYPE ≡ meaning.code };
 
-    fn less(self, other: Self) -> bool
-        ensures { result ≡ meaning.less self other };
+    ghost zero: { ZERO ≡ meaning.zero };
+
+    ghost equal: { (x y : Self) → Self.eq x y ≡ meaning.equal x y };
+
+    ghost less: { (x y : Self) → partial_lt Self.partial_cmp x y ≡ meaning.less x y };
+
+    ghost at_most: { (x y : Self) → partial_le Self.partial_cmp x y ≡ (meaning.less x y || meaning.equal x y) };
 }
 
 impl Number for i32 {
     const TYPE: u8 = 2;
 
+    ghost TYPE = { 2 };
+
     const ZERO: u32 = 0;
+
+    ghost ZERO = { 0 };
 
     ghost meaning = { ints };
 
-    fn type_code() -> u8 {
-        Self::TYPE
-    }
+    ghost code = { refl };
 
-    fn zero_bits() -> u32 {
-        Self::ZERO
-    }
+    ghost zero = { refl };
+
+    ghost equal = { λ x y. refl };
+
+    ghost less = { Prim.search rules };
+
+    ghost at_most = { Prim.search rules };
 
     fn of_word(word: u32) -> i32 {
         word.cast_signed()
@@ -95,30 +105,28 @@ impl Number for i32 {
     fn negated(self) -> i32 {
         self.wrapping_neg()
     }
-
-    fn equals(self, other: i32) -> bool {
-        self == other
-    }
-
-    fn less(self, other: i32) -> bool {
-        self < other
-    }
 }
 
 impl Number for f32 {
     const TYPE: u8 = 3;
 
+    ghost TYPE = { 3 };
+
     const ZERO: u32 = 0;
+
+    ghost ZERO = { 0 };
 
     ghost meaning = { floats };
 
-    fn type_code() -> u8 {
-        Self::TYPE
-    }
+    ghost code = { refl };
 
-    fn zero_bits() -> u32 {
-        Self::ZERO
-    }
+    ghost zero = { refl };
+
+    ghost equal = { λ x y. refl };
+
+    ghost less = { Prim.search rules };
+
+    ghost at_most = { Prim.search rules };
 
     fn of_word(word: u32) -> f32 {
         f32_from_bits_with_nan(word)
@@ -146,13 +154,5 @@ impl Number for f32 {
 
     fn negated(self) -> f32 {
         -self
-    }
-
-    fn equals(self, other: f32) -> bool {
-        self == other
-    }
-
-    fn less(self, other: f32) -> bool {
-        self < other
     }
 }

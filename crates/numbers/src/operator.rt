@@ -1,7 +1,7 @@
 // The operators on values, and the kinds of the nodes that stand for them.
 ghost use Rattle.numbers.specs.Operators.{Decodes, operator_kind, prefix_kind};
 
-#[derive(Clone, Copy)]
+#[derive(Clone, Copy, Debug, PartialEq, Eq)]
 pub enum Comparison {
     Equal,
     NotEqual,
@@ -11,7 +11,7 @@ pub enum Comparison {
     GreaterOrEqual,
 }
 
-#[derive(Clone, Copy)]
+#[derive(Clone, Copy, Debug, PartialEq, Eq)]
 pub enum Calculation {
     Add,
     Subtract,
@@ -20,51 +20,59 @@ pub enum Calculation {
 }
 
 // An operator between two values.
-#[derive(Clone, Copy)]
+#[derive(Clone, Copy, Debug, PartialEq, Eq)]
 pub enum Operator {
     Compare(Comparison),
     Calculate(Calculation),
 }
 
 // An operator before a value.
-#[derive(Clone, Copy)]
+#[derive(Clone, Copy, Debug, PartialEq, Eq)]
 pub enum Prefix {
     Plus,
     Minus,
     Not,
 }
 
-impl Operator {
-    // The operator of a node of this kind, if it is one.
-    pub fn of_kind(kind: u8) -> Option<Operator>
-        ensures { Decodes operator_kind kind result }
-    {
+// That a kind is no operator's.
+#[derive(Clone, Copy, Debug, PartialEq, Eq)]
+pub struct NoOperator;
+
+// The operator of a node of this kind, if it is one.
+impl TryFrom<u8> for Operator {
+    type Error = NoOperator;
+
+    ghost try_from_gives = { Decodes operator_kind };
+
+    fn try_from(kind: u8) -> Result<Operator, NoOperator> {
         match kind {
-            29 => Some(Operator::Compare(Comparison::Equal)),
-            30 => Some(Operator::Compare(Comparison::NotEqual)),
-            31 => Some(Operator::Compare(Comparison::Less)),
-            32 => Some(Operator::Compare(Comparison::LessOrEqual)),
-            33 => Some(Operator::Compare(Comparison::Greater)),
-            34 => Some(Operator::Compare(Comparison::GreaterOrEqual)),
-            35 => Some(Operator::Calculate(Calculation::Add)),
-            36 => Some(Operator::Calculate(Calculation::Subtract)),
-            37 => Some(Operator::Calculate(Calculation::Multiply)),
-            38 => Some(Operator::Calculate(Calculation::Divide)),
-            _ => None,
+            29 => Ok(Operator::Compare(Comparison::Equal)),
+            30 => Ok(Operator::Compare(Comparison::NotEqual)),
+            31 => Ok(Operator::Compare(Comparison::Less)),
+            32 => Ok(Operator::Compare(Comparison::LessOrEqual)),
+            33 => Ok(Operator::Compare(Comparison::Greater)),
+            34 => Ok(Operator::Compare(Comparison::GreaterOrEqual)),
+            35 => Ok(Operator::Calculate(Calculation::Add)),
+            36 => Ok(Operator::Calculate(Calculation::Subtract)),
+            37 => Ok(Operator::Calculate(Calculation::Multiply)),
+            38 => Ok(Operator::Calculate(Calculation::Divide)),
+            _ => Err(NoOperator),
         }
     }
 }
 
-impl Prefix {
-    // The operator of a node of this kind, if it is one.
-    pub fn of_kind(kind: u8) -> Option<Prefix>
-        ensures { Decodes prefix_kind kind result }
-    {
+// The operator of a node of this kind, if it is one.
+impl TryFrom<u8> for Prefix {
+    type Error = NoOperator;
+
+    ghost try_from_gives = { Decodes prefix_kind };
+
+    fn try_from(kind: u8) -> Result<Prefix, NoOperator> {
         match kind {
-            39 => Some(Prefix::Plus),
-            40 => Some(Prefix::Minus),
-            41 => Some(Prefix::Not),
-            _ => None,
+            39 => Ok(Prefix::Plus),
+            40 => Ok(Prefix::Minus),
+            41 => Ok(Prefix::Not),
+            _ => Err(NoOperator),
         }
     }
 }

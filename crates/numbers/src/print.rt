@@ -1,79 +1,87 @@
 // The text of a value.
-ghost use Rattle.std.specs.Prelude.{◌≡◌, ◌^◌, ◌<◌, ◌≤◌, ◌++◌, codes};
-ghost use Rattle.numbers.specs.Printed.{int_text, boolean_text, float_text, over, rounded, minus};
+ghost use Rattle.std.specs.Prelude.{◌≡◌, ◌^◌, ◌<◌, ◌≤◌, ◌+◌, ◌%◌, ◌++◌, ◌∷◌, [], length};
+ghost use Rattle.arrayvec.specs.ArrayString.{array_string_len};
+ghost use Rattle.numbers.specs.Printed.{int_text, boolean_text, float_text, minus, rounded};
 ghost use Rattle.numbers.specs.Shown.{shown, ending_text};
 
 use crate::text::{Ending, Text};
 use crate::thousandths::thousandths;
+use arrayvec::ArrayString;
+use itoa::Buffer;
 
 // A newline alone.
 pub fn newline() -> Text
     ensures { shown result ≡ ending_text Ending.Newline }
 {
-    Text::ending(Ending::Newline)
+    Text::ended(ArrayString::new(), Ending::Newline)
 }
 
 // The boolean of `word`: true or false.
 pub fn print_boolean(word: u32, ending: Ending) -> Text
     ensures { shown result ≡ boolean_text word ++ ending_text ending }
 {
-    let mut text = Text::ending(ending);
-    text.put_all(if word != 0 { b"true" } else { b"false" });
-    text
+    let mut chars = ArrayString::new();
+    chars.push_str(if word != 0 { "true" } else { "false" });
+    Text::ended(chars, ending)
 }
 
 // The int of `word` in decimal.
 pub fn print_int(word: u32, ending: Ending) -> Text
     ensures { shown result ≡ int_text word ++ ending_text ending }
 {
-    let n = word.cast_signed();
-    let mut text = Text::ending(ending);
-    text.put_number(n.unsigned_abs() as u64);
-    if n < 0 {
-        text.put(b'-');
-    }
-    text
+    let mut chars = ArrayString::new();
+    let mut digits = Buffer::new();
+    chars.push_str(digits.format(word.cast_signed()));
+    Text::ended(chars, ending)
 }
 
 // The float of `word`, to three decimals.
+#[tactic(auto, using(crate::proofs::Printing::text_nan, crate::proofs::Printing::text_over, crate::proofs::Printing::text_finite))]
 pub fn print_float(word: u32, ending: Ending) -> Text
     ensures { shown result ≡ float_text word ++ ending_text ending }
 {
     let size = word % 0x8000_0000;
     let negative = word >= 0x8000_0000;
-    let mut text = Text::ending(ending);
+    let mut chars = ArrayString::new();
     if size > 0x7F80_0000 {
-        text.put_all(b"nan");
+        chars.push_str("nan");
     } else if size >= 0x4F00_0000 {
-        put_over(&mut text, negative);
+        chars.push_str(sign(negative));
+        chars.push_str("over");
     } else {
-        put_thousandths(&mut text, negative, thousandths(word));
+        push_thousandths(&mut chars, negative, thousandths(word));
     }
-    text
-}
-
-// Writes the text of what is too large.
-fn put_over(text: &mut Text, negative: bool)
-    requires { 15 ≤ text.old.start }
-    ensures { shown text.new ≡ over negative ++ shown text.old }
-{
-    text.put_all(b"over");
-    if negative {
-        text.put(b'-');
-    }
+    Text::ended(chars, ending)
 }
 
 // Writes `n` thousandths, with a minus only where some digit is not 0.
-fn put_thousandths(text: &mut Text, negative: bool, n: u64)
-    requires { (n < 2 ^ 41) × (15 ≤ text.old.start) }
-    ensures { shown text.new ≡ rounded negative n ++ shown text.old }
+#[tactic(auto, using(crate::proofs::Figures::length_whole))]
+fn push_thousandths(chars: &mut ArrayString<16>, negative: bool, n: u64)
+    requires { (n < 2 ^ 41) × (array_string_len chars.old ≡ 0) }
+    ensures text { chars.new.bytes ≡ rounded negative n }
+    ensures room { array_string_len chars.new ≤ 15 }
 {
-    text.put(b'0' + (n % 10) as u8);
-    text.put(b'0' + (n / 10 % 10) as u8);
-    text.put(b'0' + (n / 100 % 10) as u8);
-    text.put(b'.');
-    text.put_number(n / 1000);
-    if negative && n > 0 {
-        text.put(b'-');
-    }
+    chars.push_str(sign(negative && n > 0));
+    let mut digits = Buffer::new();
+    chars.push_str(digits.format(n / 1000));
+    chars.push_str(".");
+    push_digit(chars, n / 100);
+    push_digit(chars, n / 10);
+    push_digit(chars, n);
+}
+
+// Writes the last digit of `n`.
+fn push_digit(chars: &mut ArrayString<16>, n: u64)
+    requires { array_string_len chars.old < 16 }
+    ensures text { chars.new.bytes ≡ chars.old.bytes ++ (48 + n % 10) ∷ [] }
+    ensures room { array_string_len chars.new ≡ array_string_len chars.old + 1 }
+{
+    chars.push(char::from(b'0' + (n % 10) as u8));
+}
+
+fn sign(negative: bool) -> &'static str
+    ensures text { result.now ≡ minus negative }
+    ensures short { length result.now ≤ 1 }
+{
+    if negative { "-" } else { "" }
 }

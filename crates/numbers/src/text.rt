@@ -1,20 +1,39 @@
-// A short text, written from its end.
-ghost use Rattle.std.specs.Prelude.{◌≡◌, ◌≤◌, length};
+// A short text, which lies in the value itself.
+ghost use Rattle.std.specs.Prelude.{◌≡◌, ◌<◌, ◌++◌};
+ghost use Rattle.arrayvec.specs.ArrayString.{array_string_len};
+ghost use Rattle.numbers.specs.Shown.{shown, ending_text};
 
-mod operations;
+use arrayvec::ArrayString;
 
 // What stands behind a value that is printed.
-#[derive(Clone, Copy)]
+#[derive(Clone, Copy, Debug, PartialEq, Eq)]
 pub enum Ending {
     Nothing,
     Newline,
 }
 
-// The bytes from `start` on.
 #[derive(Clone, Copy)]
 pub struct Text {
-    bytes: [u8; 16],
-    start: usize,
-    ghost room: { start ≤ 16 },
-    ghost whole: { length bytes ≡ 16 },
+    chars: ArrayString<16>,
+}
+
+impl Text {
+    // The text of `chars`, with `ending` behind it.
+    pub(crate) fn ended(chars: ArrayString<16>, ending: Ending) -> Text
+        requires { array_string_len chars < 16 }
+        ensures { shown result ≡ chars.bytes ++ ending_text ending }
+    {
+        let mut chars = chars;
+        match ending {
+            Ending::Nothing => {}
+            Ending::Newline => chars.push('\n'),
+        }
+        Text { chars }
+    }
+
+    pub fn as_bytes(&self) -> &[u8]
+        ensures { result.now ≡ shown self.now }
+    {
+        self.chars.as_bytes()
+    }
 }

@@ -1,24 +1,8 @@
-use Rattle.std.proofs.Common.{refl, ap, ◌∙◌, arith}
-use Rattle.memories.specs.Cells.{cleared}
-use Rattle.memories.specs.Layout.{byte_cells}
-use Rattle.memories.proofs.Cells.{inside_yes, inside_no}
-use Rattle.memories.proofs.Fives.{length_bytes, put_bytes}
+use Rattle.std.proofs.Common.{arith}
+use Rattle.memories.proofs.Fives.{put_changed}
 use Rattle.memories.proofs.bytes.CellBytesMemory.clear.Goals as goal
 
-pub returns-then-cell-self : goal.returns-then-cell-self
-returns-then-cell-self c = record {
-  says = inside_no _ _ _ (length_bytes _) c.if-cell-self.true;
-  after = refl;
-  bytes = refl;
-  lent = refl;
-}
-
-pub returns : goal.returns
-returns c = record {
-  says = inside_yes _ _ _ (length_bytes _) c.if-cell-self.false;
-  after =
-      ap byte_cells c.put.ensures.bytes
-      ∙ put_bytes c.args.self.now.bytes.now c.args.cell cleared c.if-cell-self.false (omega arith);
-  bytes = c.put.ensures.bytes;
-  lent = c.put.ensures.lent;
-}
+pub returns-clause-after : goal.returns-clause-after
+returns-clause-after c =
+    let e = c.default.ensures in
+    put_changed _ _ _ c.default.result _ _ c.put.ensures.says (omega (arith, e.1)) (rw e.0) c.put.ensures.bytes

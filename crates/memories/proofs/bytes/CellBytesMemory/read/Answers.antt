@@ -1,15 +1,17 @@
-use Rattle.std.proofs.Common.{ℕ, ◌*◌, get_or, sym, ap, ◌∙◌}
-use Rattle.memories.specs.Cells.{record_cell}
-use Rattle.memories.proofs.Cells.{read_past}
-use Rattle.memories.proofs.Fives.{length_bytes, read_bytes}
+use Rattle.std.proofs.Common.{sym, ◌∙◌, arith}
+use Rattle.std.proofs.lemmas.List.{get_or_past}
+use Rattle.memories.specs.Layout.{byte_cells}
+use Rattle.memories.proofs.Fives.{length_bytes, seen_chunk}
 use Rattle.memories.proofs.bytes.CellBytesMemory.read.Goals as goal
 
-pub returns-then-cell-self : goal.returns-then-cell-self
-returns-then-cell-self c = read_past _ _ _ (length_bytes _) c.if-cell-self.true
+pub returns-in_err-ty : goal.returns-in_err-ty
+returns-in_err-ty c =
+    let l = length_bytes c.args.self.now.bytes.now in
+    c.from_residual.ensures ∙ sym (get_or_past (byte_cells c.args.self.now.bytes.now) c.args.cell _ (omega (arith, c.as_chunks.ensures.front_len, c.in_err-ty.ensures.lookup.3)))
 
 pub returns : goal.returns
 returns c =
-    let bytes = c.args.self.now.bytes.now in
     c.seen.ensures
-    ∙ ap (λ (w : ℕ). record_cell (record { ty = get_or bytes (5 * c.args.cell) 0; word = w })) c.from_be_bytes-word.ensures
-    ∙ sym (read_bytes bytes c.args.cell c.if-cell-self.false)
+    ∙ seen_chunk c.args.self.now.bytes.now c.in_ok-ty.field-0.now _ _ _ c.as_chunks.ensures.front
+    (omega (arith, c.as_chunks.ensures.front_len, c.in_ok-ty.ensures.lookup.3))
+    c.in_ok-ty.ensures.lookup.1 c.from_be_bytes-word.ensures
