@@ -69,12 +69,12 @@ applied operator ty a b =
     else if ty == 3 then on_numbers floats operator a b
     else Err NoRule
 
--- the same of one operand
-abbrev pub prefixed : Prefix → ℕ → ℕ → Answer
-prefixed prefix ty a =
-    if ty == 1 then on_boolean prefix a
-    else if ty == 2 then on_number ints prefix a
-    else if ty == 3 then on_number floats prefix a
+-- the same of one value
+abbrev pub prefixed : Prefix → Value → Answer
+prefixed prefix v =
+    if v.ty == 1 then on_boolean prefix v.word
+    else if v.ty == 2 then on_number ints prefix v.word
+    else if v.ty == 3 then on_number floats prefix v.word
     else Err NoRule
 
 -- the word of false, of 0 and of 0.0

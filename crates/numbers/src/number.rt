@@ -1,4 +1,6 @@
 // The two kinds of number.
+#![tactic(auto, using(std::proofs::lemmas::Int::wraps))]
+
 ghost use Rattle.std.specs.Prelude.{◌≡◌, ℕ, ◌||◌, refl};
 ghost use Rattle.std.specs.Ordering.{partial_lt, partial_le};
 ghost use Rattle.std.proofs.Common.{rules};

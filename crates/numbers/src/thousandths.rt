@@ -23,6 +23,7 @@ fn halved(n: u64, times: u32) -> u64
 }
 
 // The finite float of `word` as m * 2 ^ k of the smallest, which is 2 ^ -149.
+#[tactic(auto, using(crate::proofs::Fields::no_field, crate::proofs::Fields::with_field))]
 fn parts(word: u32) -> (u64, u32)
     requires { word % 2 ^ 31 < 0x7F80_0000 }
     ensures value { HasValue (from_bits binary32 word) (nat_le (2 ^ 31) word) (result.0 * 2 ^ result.1) (2 ^ 149) }
