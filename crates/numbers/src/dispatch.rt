@@ -1,4 +1,5 @@
 // The operators on values of any type.
+// The type is a byte, since one that is none of the three has an answer too: no rule.
 ghost use Rattle.std.specs.Prelude.{◌≡◌};
 ghost use Rattle.numbers.specs.Applied.{applied, prefixed, zero_of};
 

@@ -17,8 +17,8 @@ returns-then-power-ge149 c =
 pub returns-then-power-lt114-clause-value : goal.returns-then-power-lt114-clause-value
 returns-then-power-lt114-clause-value c =
     sym (
-      thousandths_closest c.args.word _ _ c.parts-digits.ensures.value
-      ∙ thousandths_none _ _ c.parts-digits.ensures.digits c.if-power-lt114.true
+    thousandths_closest c.args.word _ _ c.parts-digits.ensures.value
+    ∙ thousandths_none _ _ c.parts-digits.ensures.digits c.if-power-lt114.true
     )
 
 pub returns-else-power-lt114-clause-value : goal.returns-else-power-lt114-clause-value
