@@ -7,6 +7,7 @@ use crate::memory::Memory;
 use crate::typed::{is_type, seen};
 use crate::value::Value;
 
+// Not one type with `CellBytes`: a trait for their places would be longer than the three lines that the two share.
 #[derive(Drop)]
 pub struct CellRecords<'a> {
     records: &'a mut [Value],

@@ -13,5 +13,5 @@ pub fn is_type(ty: u8) -> bool
 pub fn seen(place: Value) -> Option<Value>
     ensures { result ≡ record_cell place }
 {
-    if is_type(place.ty) { Some(place) } else { None }
+    is_type(place.ty).then_some(place)
 }

@@ -29,13 +29,19 @@ with_field b x h k =
     (some_field (leb (2 ^ 31) b) x (b % 8388608) k)
 
 -- ---- its size in thousandths
-pub thousandths_are : (x : Float) (s : Bool) (a c : ℕ) → 0 < c → HasValue x s a c → thousandths_of x ≡ closest (a * 1000) c
+thousandths_are : (x : Float) (s : Bool) (a c : ℕ) → 0 < c → HasValue x s a c → thousandths_of x ≡ closest (a * 1000) c
 unfolding thousandths_of
 thousandths_are nan s a c C h = absurd h
 thousandths_are (inf t) s a c C h = absurd h
 thousandths_are (fin t m e) s a c C h =
     closest_same (m * up e * 1000) (down e) (a * 1000) c (down_pos e) C
     (mul_right_comm (m * up e) 1000 c ∙ ap (λ (z : ℕ). z * 1000) h.1 ∙ mul_right_comm a (down e) 1000)
+
+-- of the smallest floats, m * 2 ^ k
+pub thousandths_closest : (b m k : ℕ)
+    → HasValue (of_bits binary32 b) (leb (2 ^ 31) b) (m * 2 ^ k) (2 ^ 149)
+    → thousandths_of (of_bits binary32 b) ≡ closest (m * 2 ^ k * 1000) (2 ^ 149)
+thousandths_closest b m k h = thousandths_are (of_bits binary32 b) (leb (2 ^ 31) b) (m * 2 ^ k) (2 ^ 149) (pow_pos 149) h
 
 closest_one : (n : ℕ) → closest n 1 ≡ n
 closest_one n = rw (mod-one, div-one)

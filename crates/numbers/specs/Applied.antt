@@ -1,6 +1,7 @@
 -- What the operators answer on words, by the type of the operands.
 use Rattle.std.specs.Prelude.{ℕ, Bool, if◌then◌else◌, not, Some, None, Option, Ok, Err, Result, ◌==◌}
 use Rattle.std.specs.Bool.{beq}
+use Rattle.std.specs.Int.{from_bool}
 use Rattle.memories.specs.declared.value.Value.{Value}
 use Rattle.numbers.specs.declared.answer.NoAnswer.{NoAnswer}
 use Rattle.numbers.specs.declared.answer.NoAnswer.TheVariants.{ZeroDivisor, NoRule}
@@ -11,7 +12,7 @@ use Rattle.numbers.specs.declared.operator.Operator.TheVariants.{Compare, Calcul
 use Rattle.numbers.specs.declared.operator.Prefix.{Prefix}
 use Rattle.numbers.specs.declared.operator.Prefix.TheVariants.{Plus, Minus, Not}
 use Rattle.numbers.specs.Arithmetic.{Arithmetic, ints, floats, compared, calculated}
-use Rattle.numbers.specs.Booleans.{truth, holds}
+use Rattle.numbers.specs.Booleans.{holds}
 
 -- a value, or why there is none
 abbrev pub Answer : Type 0
@@ -19,7 +20,7 @@ Answer = Result Value NoAnswer
 
 -- a boolean as an answer
 abbrev pub says : Bool → Answer
-says b = Ok (record { ty = 1; word = truth b })
+says b = Ok (record { ty = 1; word = from_bool b })
 
 -- a number of a kind as an answer
 abbrev pub gives : {N : Type 0} → Arithmetic N → N → Answer
@@ -69,12 +70,12 @@ applied operator ty a b =
     else if ty == 3 then on_numbers floats operator a b
     else Err NoRule
 
--- the same of one operand
-abbrev pub prefixed : Prefix → ℕ → ℕ → Answer
-prefixed prefix ty a =
-    if ty == 1 then on_boolean prefix a
-    else if ty == 2 then on_number ints prefix a
-    else if ty == 3 then on_number floats prefix a
+-- the same of one value
+abbrev pub prefixed : Prefix → Value → Answer
+prefixed prefix v =
+    if v.ty == 1 then on_boolean prefix v.word
+    else if v.ty == 2 then on_number ints prefix v.word
+    else if v.ty == 3 then on_number floats prefix v.word
     else Err NoRule
 
 -- the word of false, of 0 and of 0.0

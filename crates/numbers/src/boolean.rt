@@ -7,7 +7,7 @@ use crate::operator::{Comparison, Operator, Prefix};
 use memories::Value;
 
 // A boolean as an answer.
-pub fn boolean(holds: bool) -> Answer
+pub fn boolean_answer(holds: bool) -> Answer
     ensures { result ≡ says holds }
 {
     Ok(Value {
@@ -22,8 +22,8 @@ pub fn apply_to_booleans(operator: Operator, left: u32, right: u32) -> Answer
 {
     let same = (left != 0) == (right != 0);
     match operator {
-        Operator::Compare(Comparison::Equal) => boolean(same),
-        Operator::Compare(Comparison::NotEqual) => boolean(!same),
+        Operator::Compare(Comparison::Equal) => boolean_answer(same),
+        Operator::Compare(Comparison::NotEqual) => boolean_answer(!same),
         _ => Err(NoAnswer::NoRule),
     }
 }
@@ -32,7 +32,7 @@ pub fn apply_to_boolean(prefix: Prefix, word: u32) -> Answer
     ensures { result ≡ on_boolean prefix word }
 {
     match prefix {
-        Prefix::Not => boolean(word == 0),
+        Prefix::Not => boolean_answer(word == 0),
         _ => Err(NoAnswer::NoRule),
     }
 }

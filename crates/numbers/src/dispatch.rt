@@ -1,4 +1,5 @@
 // The operators on values of any type.
+// The type is a byte, since one that is none of the three has an answer too: no rule.
 ghost use Rattle.std.specs.Prelude.{◌≡◌};
 ghost use Rattle.numbers.specs.Applied.{applied, prefixed, zero_of};
 
@@ -7,6 +8,7 @@ use crate::boolean::{apply_to_boolean, apply_to_booleans};
 use crate::generic::{apply_to_number, apply_to_numbers};
 use crate::number::Number;
 use crate::operator::{Operator, Prefix};
+use memories::Value;
 
 // An operator between two words of the type `ty`.
 pub fn apply(operator: Operator, ty: u8, left: u32, right: u32) -> Answer
@@ -20,14 +22,14 @@ pub fn apply(operator: Operator, ty: u8, left: u32, right: u32) -> Answer
     }
 }
 
-// An operator before a word of the type `ty`.
-pub fn apply_prefix(prefix: Prefix, ty: u8, word: u32) -> Answer
-    ensures { result ≡ prefixed prefix ty word }
+// An operator before a value.
+pub fn apply_prefix(prefix: Prefix, value: Value) -> Answer
+    ensures { result ≡ prefixed prefix value }
 {
-    match ty {
-        1 => apply_to_boolean(prefix, word),
-        2 => apply_to_number::<i32>(prefix, word),
-        3 => apply_to_number::<f32>(prefix, word),
+    match value.ty {
+        1 => apply_to_boolean(prefix, value.word),
+        2 => apply_to_number::<i32>(prefix, value.word),
+        3 => apply_to_number::<f32>(prefix, value.word),
         _ => Err(NoAnswer::NoRule),
     }
 }

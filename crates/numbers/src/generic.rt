@@ -4,7 +4,7 @@ ghost use Rattle.numbers.specs.Arithmetic.{compared, calculated};
 ghost use Rattle.numbers.specs.Applied.{gives, on_numbers, on_number};
 
 use crate::answer::{Answer, NoAnswer};
-use crate::boolean::boolean;
+use crate::boolean::boolean_answer;
 use crate::number::Number;
 use crate::operator::{Calculation, Comparison, Operator, Prefix};
 use memories::Value;
@@ -35,7 +35,7 @@ fn calculate<N: Number>(calculation: Calculation, left: N, right: N) -> Option<N
 }
 
 // A number as an answer.
-fn number<N: Number>(number: N) -> Answer
+fn number_answer<N: Number>(number: N) -> Answer
     ensures { result ≡ gives N.Number.meaning number }
 {
     Ok(Value {
@@ -51,9 +51,9 @@ pub fn apply_to_numbers<N: Number>(operator: Operator, left: u32, right: u32) ->
     let a = N::of_word(left);
     let b = N::of_word(right);
     match operator {
-        Operator::Compare(comparison) => boolean(compare(comparison, a, b)),
+        Operator::Compare(comparison) => boolean_answer(compare(comparison, a, b)),
         Operator::Calculate(calculation) => {
-            number(calculate(calculation, a, b).ok_or(NoAnswer::ZeroDivisor)?)
+            number_answer(calculate(calculation, a, b).ok_or(NoAnswer::ZeroDivisor)?)
         }
     }
 }
@@ -64,8 +64,8 @@ pub fn apply_to_number<N: Number>(prefix: Prefix, word: u32) -> Answer
 {
     let operand = N::of_word(word);
     match prefix {
-        Prefix::Plus => number(operand),
-        Prefix::Minus => number(operand.negated()),
+        Prefix::Plus => number_answer(operand),
+        Prefix::Minus => number_answer(operand.negated()),
         Prefix::Not => Err(NoAnswer::NoRule),
     }
 }

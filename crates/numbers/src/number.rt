@@ -1,4 +1,6 @@
 // The two kinds of number.
+#![tactic(auto, using(std::proofs::lemmas::Int::wraps))]
+
 ghost use Rattle.std.specs.Prelude.{◌≡◌, ℕ, ◌||◌, refl};
 ghost use Rattle.std.specs.Ordering.{partial_lt, partial_le};
 ghost use Rattle.std.proofs.Common.{rules};
@@ -7,6 +9,8 @@ ghost use Rattle.numbers.specs.Arithmetic.{Arithmetic, ints, floats};
 use std::num::{f32_from_bits_with_nan, f32_to_bits_with_nan};
 
 // A kind of number. `meaning` says what its words and its operators are.
+// Words are read and stored by methods, since std alone may write a `From` for its own types,
+// and `plus` and the like are methods, since an int's wrap where std's operators must fit.
 pub trait Number: Copy + PartialOrd {
     // the type of its values, and the word of its zero
     const TYPE: u8;
@@ -94,6 +98,7 @@ impl Number for i32 {
         self.wrapping_mul(other)
     }
 
+    // Not `checked_div`, which answers `None` for the lowest int over -1 too.
     fn over(self, other: i32) -> Option<i32> {
         if other == 0 {
             None

@@ -1,4 +1,5 @@
 // The text of a value.
+// By `push_str`, which cannot fail where there is room; `write!` answers a result that may be an error.
 ghost use Rattle.std.specs.Prelude.{◌≡◌, ◌^◌, ◌<◌, ◌≤◌, ◌+◌, ◌%◌, ◌++◌, ◌∷◌, [], length};
 ghost use Rattle.arrayvec.specs.ArrayString.{array_string_len};
 ghost use Rattle.numbers.specs.Printed.{int_text, boolean_text, float_text, minus, rounded};
@@ -36,6 +37,7 @@ pub fn print_int(word: u32, ending: Ending) -> Text
 }
 
 // The float of `word`, to three decimals.
+// Not by `{:.3}`, since no clause of the library says what that prints of a float.
 #[tactic(auto, using(crate::proofs::Printing::text_nan, crate::proofs::Printing::text_over, crate::proofs::Printing::text_finite))]
 pub fn print_float(word: u32, ending: Ending) -> Text
     ensures { shown result ≡ float_text word ++ ending_text ending }

@@ -19,11 +19,10 @@ pub struct Text {
 
 impl Text {
     // The text of `chars`, with `ending` behind it.
-    pub(crate) fn ended(chars: ArrayString<16>, ending: Ending) -> Text
+    pub(crate) fn ended(mut chars: ArrayString<16>, ending: Ending) -> Text
         requires { array_string_len chars < 16 }
         ensures { shown result ≡ chars.bytes ++ ending_text ending }
     {
-        let mut chars = chars;
         match ending {
             Ending::Nothing => {}
             Ending::Newline => chars.push('\n'),

@@ -5,6 +5,8 @@ ghost use Rattle.std.specs.Float.Ieee.Exact.{HasValue};
 ghost use Rattle.std.specs.Float.Ieee.Nearest.{closest};
 ghost use Rattle.numbers.specs.Printed.{thousandths_of};
 
+use std::cmp::Ordering;
+
 // n / 2 ^ `times`, to the nearest whole number, a tie to the even one.
 fn halved(n: u64, times: u32) -> u64
     requires { (n < 2 ^ 40) × (times < 40) }
@@ -12,17 +14,16 @@ fn halved(n: u64, times: u32) -> u64
 {
     let unit = 1u64 << times;
     let quotient = n / unit;
-    let twice = n % unit * 2;
-    if twice < unit {
-        quotient
-    } else if unit < twice {
-        quotient + 1
-    } else {
-        quotient + quotient % 2
+    match (n % unit * 2).cmp(&unit) {
+        Ordering::Less => quotient,
+        Ordering::Equal => quotient + quotient % 2,
+        Ordering::Greater => quotient + 1,
     }
 }
 
 // The finite float of `word` as m * 2 ^ k of the smallest, which is 2 ^ -149.
+// A pair and no struct, since it is made once and taken apart once.
+#[tactic(auto, using(crate::proofs::Fields::no_field, crate::proofs::Fields::with_field))]
 fn parts(word: u32) -> (u64, u32)
     requires { word % 2 ^ 31 < 0x7F80_0000 }
     ensures value { HasValue (from_bits binary32 word) (nat_le (2 ^ 31) word) (result.0 * 2 ^ result.1) (2 ^ 149) }
@@ -33,9 +34,9 @@ fn parts(word: u32) -> (u64, u32)
     let field = size / 0x80_0000;
     let digits = word % 0x80_0000;
     if field == 0 {
-        (digits as u64, 0)
+        (u64::from(digits), 0)
     } else {
-        (0x80_0000 + digits as u64, field - 1)
+        (0x80_0000 + u64::from(digits), field - 1)
     }
 }
 
