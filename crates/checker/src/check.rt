@@ -16,15 +16,8 @@ use crate::shelf::{Name, Shelf};
 pub fn clear_notes(notes: &mut [Note], count: usize)
     ensures { notes.new ≡ cleared count notes.old }
 {
-    let mut i = 0;
-    while i < count && i < notes.len() {
-        notes[i] = Note {
-            ty: 0,
-            turned: false,
-            declaration: 0,
-        };
-        i += 1;
-    }
+    let end = count.min(notes.len());
+    notes[..end].fill(Note::default());
 }
 
 // All questions but the first: the table's notes, or the first no.

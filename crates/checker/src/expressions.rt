@@ -15,12 +15,8 @@ use crate::types::{Arguments, Ty, Valued};
 fn note_of(ty: Ty) -> Note
     ensures { result ≡ note_of ty }
 {
-    let number = match ty {
-        Ty::Void => 7,
-        Ty::Int => 2,
-    };
     Note {
-        ty: number,
+        ty: ty as u8,
         turned: false,
         declaration: 0,
     }
@@ -39,10 +35,7 @@ fn parameter_count(name: u32) -> usize
 fn is_int(ty: Ty) -> bool
     ensures { result ≡ is_int ty }
 {
-    match ty {
-        Ty::Void => false,
-        Ty::Int => true,
-    }
+    ty == Ty::Int
 }
 
 // The first argument that is no int, where `before` is the first among the earlier ones.

@@ -13,6 +13,7 @@ pub mod search;
 mod shape;
 pub mod shelf;
 mod statements;
+pub mod table;
 pub mod types;
 
 pub use check::{check_table, clear_notes};
