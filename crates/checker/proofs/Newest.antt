@@ -1,8 +1,8 @@
 -- One entry after the other, the newest first.
-use Rattle.std.proofs.Common.{◌≡◌, ℕ, ◌+◌, ◌-◌, ◌<◌, ◌≤◌, min, cond, eqb, List, [], ◌∷◌, reverse, length, get_or, take, set, Some, sym, ap, ◌∙◌, inl, inr, arith}
+use Rattle.std.proofs.Common.{◌≡◌, ℕ, ◌+◌, ◌<◌, ◌≤◌, min, List, [], ◌∷◌, reverse, length, get_or, take, set, sym, ap, ◌∙◌, inl, inr, arith}
 use Rattle.std.proofs.lemmas.List.{take_more, take_more_set, take_all, reverse-append, length-reverse, length-take-le}
-use Rattle.std.proofs.lemmas.Bool.{eq-eqb, ne_eqb, cond-true, cond-false, cases_lt}
-use Rattle.checker.specs.Search.{newest_first, find}
+use Rattle.std.proofs.lemmas.Bool.{cases_lt}
+use Rattle.checker.specs.Search.{newest_first}
 
 module _ {E : Type 0} where
   -- the last of the places is the newest

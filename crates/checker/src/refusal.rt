@@ -43,3 +43,15 @@ pub struct Refusal {
     pub node: u16,
     pub line: u16,
 }
+
+impl Refusal {
+    pub(crate) fn new(question: Question, node: u16, line: u16) -> Refusal
+        ensures { result ≡ record { question = question; node = node; line = line } }
+    {
+        Refusal {
+            question,
+            node,
+            line,
+        }
+    }
+}

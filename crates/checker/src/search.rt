@@ -15,5 +15,9 @@ pub fn newest<E: Keyed + Copy>(entries: &[E], count: usize, key: u32) -> Option<
     ensures { result ≡ find E.Keyed.key (newest_first entries.now count) key }
 {
     let end = count.min(entries.len());
-    entries[..end].iter().rev().find(|entry| entry.key() == key).copied()
+    entries[..end]
+        .iter()
+        .rev()
+        .find(|entry| entry.key() == key)
+        .copied()
 }

@@ -1,6 +1,7 @@
 // The form of each kind of node.
 ghost use Rattle.std.specs.Prelude.{◌≡◌};
-ghost use Rattle.checker.specs.Form.{of_class, plain, shape_of, type_fits, content_fits, link_fits, links_fit, root_fits};
+ghost use Rattle.checker.specs.Chain.{link_fits};
+ghost use Rattle.checker.specs.Form.{of_class, plain, shape_of, type_fits, content_fits, links_fit, root_fits};
 
 use crate::node::Node;
 
