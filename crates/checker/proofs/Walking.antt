@@ -55,9 +55,9 @@ pub statements_done : {t : List Node} {names : List Name} {count first n count�
 statements_done {t} {names} {count} {first} {n} going z = record { result = going.rest ∙ rw (tree_out t n z) refl; beyond = going.beyond; kept = going.kept }
 
 -- one built-in more
-pub one_more : (names : List Name) (i : ℕ) → length names ≡ 512 → i < 9 → newest_first names i ≡ built_ins i → newest_first (set names i (record { name = i + 1; declaration = 0 })) (i + 1) ≡ built_ins (i + 1)
-one_more names i l h e =
-    newest_set names i (record { name = i + 1; declaration = 0 }) (omega arith)
+pub one_more : (names : List Name) (i : ℕ) → i < length names → newest_first names i ≡ built_ins i → newest_first (set names i (record { name = i + 1; declaration = 0 })) (i + 1) ≡ built_ins (i + 1)
+one_more names i h e =
+    newest_set names i (record { name = i + 1; declaration = 0 }) h
     ∙ ap (λ (ns : List Name). record { name = i + 1; declaration = 0 } ∷ ns) e
     ∙ rw add-one refl
 

@@ -20,7 +20,7 @@ fn following(len: usize, number: u16, link: u16) -> u16
 }
 
 // Each item of a chain with its number, as far as the links between them are right.
-#[derive(Drop)]
+#[derive(Debug, Drop)]
 pub(crate) struct Chain<'a> {
     table: &'a [Node],
     at: u16,

@@ -20,8 +20,8 @@ const BUILT_INS: usize = 9;
 fn enter_built_ins(names: &mut [Name; 512])
     ensures { newest_first names.new 9 ≡ built_ins 9 }
 {
-    for i in 0..BUILT_INS {
-        names[i] = Name {
+    for (i, place) in names[..BUILT_INS].iter_mut().enumerate() {
+        *place = Name {
             name: i as u32 + 1,
             declaration: 0,
         };

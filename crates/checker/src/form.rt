@@ -170,6 +170,7 @@ fn ask_depth(script: Script) -> Result<(), Refusal>
 pub(crate) fn ask_size(len: usize, places: usize) -> Result<(), Refusal>
     ensures { result ≡ ask_size len places }
 {
+    // Node 0 and line 0 tell hosts that no node is at fault.
     if len < 1 || len > MOST_NODES || len > places {
         return Err(Refusal::new(Question::TableSize, 0, 0));
     }

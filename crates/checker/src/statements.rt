@@ -11,6 +11,8 @@ use crate::refusal::{Question, Refusal};
 use crate::script::{Place, Script};
 use crate::shelf::{Mark, Name, Shelf};
 
+// A struct of script and notes would have to promise at each call that it still lends the same
+// places; so notes go beside the script, and each walk asks for as many as there are nodes.
 #[cycle(walking)]
 fn walk_statement(
     place: Place,
