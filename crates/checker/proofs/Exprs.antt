@@ -12,9 +12,10 @@ use Rattle.checker.specs.declared.types.Arguments.{Arguments}
 use Rattle.checker.specs.Questions.{then}
 use Rattle.checker.specs.Notes.{put}
 use Rattle.checker.specs.Scope.{means}
-use Rattle.checker.specs.Tree.{tree, node_at, Linked, left}
+use Rattle.checker.specs.Tree.{tree, item_at, Linked, left}
 use Rattle.checker.specs.Typing.{Out, note_of, is_int, valued, first_unfit, earlier, no_arguments, after, call_of, with_notes, type_at, values, carries, Types, Gathers}
-use Rattle.checker.proofs.Trees.{tree_at, tree_none, less_next, within_next, left_within}
+use Rattle.checker.proofs.Chains.{Came}
+use Rattle.checker.proofs.Trees.{tree_here, tree_out, less_next, left_within}
 
 -- what the exit of a `?` returns
 pub broken : {X : Type 0} (r : Result X Refusal) (f : Refusal) → IsErrAnd r (λ y. y ≡ f) → r ≡ Err f
@@ -48,10 +49,10 @@ judged scope n d (Ok p) x notes e =
     carried (Err f) = refl
 judged scope n d (Err f) x notes e = let z : ◌≡◌ {A = ℕ} 0 1 = cc in absurd (omega arith)
 
-pub call_judged : {t : List Node} {scope : List Name} {n : ℕ} {notes notes' : List Note} {x : Arguments} {r : Result Ty Refusal} → (node_at t n).kind ≡ 25 → Gathers t scope (node_at t n).a notes (Ok x) notes' → r ≡ call_of n (node_at t n) (means scope (node_at t n).value) x.count x.unfit → Types t scope n notes r notes'
-call_judged {t} {scope} {n} {notes} {notes'} {x} {r} k h e =
+pub call_judged : {t : List Node} {scope : List Name} {n : ℕ} {d : Node} {notes notes' : List Note} {x : Arguments} {r : Result Ty Refusal} → d.kind ≡ 25 → Gathers t scope d.a notes (Ok x) notes' → r ≡ call_of n d (means scope d.value) x.count x.unfit → Types t scope n d notes r notes'
+call_judged {t} {scope} {n} {d} {notes} {notes'} {x} {r} k h e =
     rw e (record {
-      result = rw k (judged scope n (node_at t n) (values scope (tree t (node_at t n).a) notes) x notes' h.result);
+      result = rw k (judged scope n d (values scope (tree t d.a) notes) x notes' h.result);
       beyond = h.beyond;
     })
 
@@ -68,42 +69,42 @@ one_more s x unfit (Ok p) e =
     unfits None true = refl
     unfits None false = refl
 
--- A chain of expressions that began at first, and has come to now.
-pub record Gathering (t : List Node) (scope : List Name) (first : ℕ) (notes : List Note) (now : ℕ) (s : Arguments) (notes' : List Note) : Type 0 where
-  pub within : now ≤ length t
+-- A chain of expressions that began at first, and has come to now, which is on table t'.
+pub record Gathering (t : List Node) (scope : List Name) (first : ℕ) (notes : List Note) (t' : List Node) (now : ℕ) (s : Arguments) (notes' : List Note) : Type 0 where
+  pub table : t' ≡ t
   pub fewer : left t now ≤ left t first
   pub counted : s.count + left t now ≤ length t
   pub beyond : drop (length t) notes' ≡ drop (length t) notes
   pub rest : after no_arguments (values scope (tree t first) notes) ≡ after s (values scope (tree t now) notes')
 
-pub chain_begun : {t : List Node} {scope : List Name} {first : ℕ} {notes : List Note} → first ≤ length t → Gathering t scope first notes first no_arguments notes
-chain_begun {t} {first} w = record { within = w; fewer = omega arith; counted = omega (arith, left_within t first w); beyond = refl; rest = refl }
+pub chain_begun : {t : List Node} {scope : List Name} (first : ℕ) {notes : List Note} → Gathering t scope first notes t first no_arguments notes
+chain_begun {t} {scope} first = record { table = refl; fewer = omega arith; counted = omega (arith, left_within t first); beyond = refl; rest = refl }
 
-module _ {t : List Node} {scope : List Name} {first n : ℕ} {notes notes₁ : List Note} {s : Arguments} (linked : Linked t) (nz : n ≡ 0 → ⊥) (going : Gathering t scope first notes n s notes₁) where
-  chain_at : values scope (tree t n) notes₁ ≡ then (type_at scope n (node_at t n) (values scope (tree t (node_at t n).a)) notes₁) (λ (p : Ty × List Note). then (values scope (tree t (node_at t n).next) (put n (note_of p.0) p.1)) (λ (q : List Valued × List Note). Ok (valued n (node_at t n) p.0 ∷ q.0, q.1)))
-  chain_at = rw (tree_at t linked n nz going.within) refl
+module _ {t : List Node} {scope : List Name} {first n : ℕ} {d : Node} {notes notes₁ : List Note} {s : Arguments} {now n' : ℕ} {t₁ t' : List Node} (linked : Linked t) (came : Came t now n d t' n') (going : Gathering t scope first notes t₁ now s notes₁) where
+  chain_at : values scope (tree t now) notes₁ ≡ then (type_at scope n d (values scope (tree t d.a)) notes₁) (λ (p : Ty × List Note). then (values scope (tree t d.next) (put n (note_of p.0) p.1)) (λ (q : List Valued × List Note). Ok (valued n d p.0 ∷ q.0, q.1)))
+  chain_at = rw (came.at, tree_here linked came.here) refl
 
-  pub chain_refused : {notes₂ : List Note} {r : Result Arguments Refusal} {f : Refusal} → Types t scope n notes₁ (Err f) notes₂ → r ≡ Err f → Gathers t scope first notes r notes₂
+  pub chain_refused : {notes₂ : List Note} {r : Result Arguments Refusal} {f : Refusal} → Types t scope n d notes₁ (Err f) notes₂ → r ≡ Err f → Gathers t scope first notes r notes₂
   chain_refused h e =
       rw e (record { result = going.rest ∙ ap (after s) chain_at ∙ rw h.result refl; beyond = h.beyond ∙ going.beyond })
 
-  pub chain_on : {notes₂ : List Note} {ty : Ty} {u : Note} {unfit : Option Valued} → Types t scope n notes₁ (Ok ty) notes₂ → u ≡ note_of ty → unfit ≡ earlier s.unfit (cond (is_int ty) None (Some (valued n (node_at t n) ty)))
-      → Gathering t scope first notes (node_at t n).next (record { count = s.count + 1; unfit = unfit }) (set notes₂ (n - 1) u)
+  pub chain_on : {notes₂ : List Note} {ty : Ty} {u : Note} {unfit : Option Valued} → Types t scope n d notes₁ (Ok ty) notes₂ → u ≡ note_of ty → unfit ≡ earlier s.unfit (cond (is_int ty) None (Some (valued n d ty)))
+      → Gathering t scope first notes t' n' (record { count = s.count + 1; unfit = unfit }) (set notes₂ (n - 1) u)
   chain_on {notes₂} {ty} {u} {unfit} h eu e =
-      let less = less_next t linked n nz going.within in
+      let less = less_next linked came.here in
       record {
-        within = within_next t linked n nz going.within;
-        fewer = omega arith;
-        counted = omega arith;
-        beyond = put_beyond t n u notes₂ nz going.within ∙ h.beyond ∙ going.beyond;
+        table = came.table;
+        fewer = rw came.on (omega (arith, ap (left t) came.at));
+        counted = rw came.on (omega (arith, ap (left t) came.at));
+        beyond = put_beyond t n u notes₂ came.here.some came.here.within ∙ h.beyond ∙ going.beyond;
         rest =
-            going.rest ∙ ap (after s) chain_at ∙ rw (h.result, eu)
-            (one_more s (valued n (node_at t n) ty) unfit (values scope (tree t (node_at t n).next) (put n (note_of ty) notes₂)) e);
+            going.rest ∙ ap (after s) chain_at ∙ rw (h.result, eu, came.on)
+            (one_more s (valued n d ty) unfit (values scope (tree t d.next) (put n (note_of ty) notes₂)) e);
       }
 
-pub chain_done : {t : List Node} {scope : List Name} {first n : ℕ} {notes notes₁ : List Note} {s : Arguments} → Gathering t scope first notes n s notes₁ → n ≡ 0 → Gathers t scope first notes (Ok s) notes₁
+pub chain_done : {t : List Node} {scope : List Name} {first n : ℕ} {notes notes₁ : List Note} {s : Arguments} {t' : List Node} → Gathering t scope first notes t' n s notes₁ → item_at t n ≡ None → Gathers t scope first notes (Ok s) notes₁
 chain_done {t} {scope} {first} {n} {notes} {notes₁} {s} going z =
-    record { result = going.rest ∙ rw (tree_none t n z) (all_there s.unfit); beyond = going.beyond }
+    record { result = going.rest ∙ rw (tree_out t n z) (all_there s.unfit); beyond = going.beyond }
   where
     all_there : (u : Option Valued) → ◌≡◌ {A = Out Arguments} (Ok (record { count = s.count + 0; unfit = earlier u None }, notes₁)) (Ok (record { count = s.count; unfit = u }, notes₁))
     all_there (Some x) = rw add-zero refl

@@ -1,81 +1,16 @@
 -- The questions about the whole table, node after node.
-use Rattle.std.proofs.Common.{◌≡◌, ℕ, zero, suc, ◌+◌, ◌-◌, ◌<◌, ◌≤◌, Bool, true, false, cond, ◌&&◌, eqb, ltb, leb, ◌⊎◌, List, [], ◌∷◌, length, get_or, drop, Ok, Err, Result, sym, refl, ◌∙◌, inl, inr, add-zero, arith}
-use Rattle.std.proofs.lemmas.Bool.{lt-ltb, ne_eqb, cond-true, cond-false, cases_eq, cases_Bool, and_parts, leb-true}
+use Rattle.std.proofs.Common.{◌≡◌, ℕ, zero, suc, ◌+◌, ◌-◌, ◌<◌, ◌≤◌, Bool, true, false, cond, ◌&&◌, eqb, leb, List, [], ◌∷◌, length, get_or, drop, Ok, Err, Result, sym, refl, ◌∙◌, inl, inr, add-zero, arith}
+use Rattle.std.proofs.lemmas.Bool.{cond-true, cond-false, cases_Bool, and_parts, leb-true}
 use Rattle.std.proofs.lemmas.List.{at_drop_more, at_drop_all}
 use Rattle.checker.specs.declared.node.Node.{Node}
-use Rattle.checker.specs.declared.shape.Class.{Class}
 use Rattle.checker.specs.declared.refusal.Refusal.{Refusal}
-use Rattle.checker.specs.Tree.{tree, node_at, blank, Linked, left}
+use Rattle.checker.specs.Tree.{node_at, blank, Linked}
 use Rattle.checker.specs.declared.refusal.Question.{Question}
 use Rattle.checker.specs.declared.refusal.Question.TheVariants.{NodeForm}
 use Rattle.checker.specs.Questions.{refuse, then}
-use Rattle.checker.specs.Form.{of_class, link_fits, chain_grows, chain_fits, ask_from, ask_each, hit, times_linked, lower, lowest_deep, links_fit, root_fits, shape_fits, shape_of, node_fits, sized, formed}
-use Rattle.checker.proofs.Trees.{tree_at, up_within, up_room, link_up, left_link}
-
-module _ (t : List Node) (class : Class) where
-  -- one item of a chain, grown with so much room
-  grows : ℕ → ℕ → Bool
-  grows f m = of_class class (node_at t m).kind && cond (link_fits (length t) m (node_at t m).next) (chain_grows t class f (node_at t m).next) true
-
-  -- any room from what is needed on gives the same answer
-  enough : (f g m : ℕ) → m ≤ length t → (suc (length t) - m ≤ f ⊎ m ≡ 0) → (suc (length t) - m ≤ g ⊎ m ≡ 0) → chain_grows t class f m ≡ chain_grows t class g m
-  enough zero zero m w p q = refl
-  enough zero (suc g) m w (inl p) q = absurd (omega arith)
-  enough zero (suc g) m w (inr p) q = rw p refl
-  enough (suc f) zero m w p (inl q) = absurd (omega arith)
-  enough (suc f) zero m w p (inr q) = rw q refl
-  enough (suc f) (suc g) m w (inr p) q = rw p refl
-  enough (suc f) (suc g) m w (inl p) (inr q) = rw q refl
-  enough (suc f) (suc g) m w (inl p) (inl q) =
-      elim (cases_eq m 0) [
-        | inl e ↦ rw e refl
-        | inr ne ↦
-            elim (cases_Bool (link_fits (length t) m (node_at t m).next)) [
-              | inl fits ↦
-                  let u = link_up t m (node_at t m).next fits in
-                  let rest = enough f g (node_at t m).next (up_within t m (node_at t m).next u) (up_room t m (node_at t m).next f u w p) (up_room t m (node_at t m).next g u w q) in
-                  rw (ne_eqb m 0 ne, fits, rest) refl
-              | inr not-fits ↦ rw (ne_eqb m 0 ne, not-fits) refl
-            ]
-      ]
-
-  -- one item of a chain
-  pub chain_at : (n : ℕ) → (n ≡ 0 → ⊥) → n ≤ length t → chain_fits t class n ≡ (of_class class (node_at t n).kind && cond (link_fits (length t) n (node_at t n).next) (chain_fits t class (node_at t n).next) true)
-  unfolding chain_fits
-  chain_at n nz w =
-      let room : suc (length t) - n ≡ suc (length t - n) = omega arith in
-      let enough-room : suc (length t) - n ≤ suc (length t - n) = omega arith in
-      elim (cases_Bool (link_fits (length t) n (node_at t n).next)) [
-        | inl fits ↦
-            let u = link_up t n (node_at t n).next fits in
-            let rest = enough (length t - n) (suc (length t) - (node_at t n).next) (node_at t n).next (up_within t n (node_at t n).next u) (up_room t n (node_at t n).next (length t - n) u w enough-room) (inl (omega arith)) in
-            rw (room, ne_eqb n 0 nz, fits, rest) refl
-        | inr not-fits ↦ rw (room, ne_eqb n 0 nz, not-fits) refl
-      ]
-
-  pub chain_none : (n : ℕ) → n ≡ 0 → chain_fits t class n ≡ true
-  unfolding chain_fits
-  chain_none n e = rw e (grows_none (suc (length t) - 0))
-    where
-      grows_none : (f : ℕ) → chain_grows t class f 0 ≡ true
-      grows_none zero = refl
-      grows_none (suc f) = refl
-
-  module _ (n : ℕ) (nz : n ≡ 0 → ⊥) (w : n ≤ length t) where
-    pub chain_wrong : false ≡ of_class class (node_at t n).kind → chain_fits t class n ≡ false
-    chain_wrong k = chain_at n nz w ∙ rw (← k) refl
-
-    pub chain_cut : true ≡ of_class class (node_at t n).kind → false ≡ link_fits (length t) n (node_at t n).next → chain_fits t class n ≡ true
-    chain_cut k l = chain_at n nz w ∙ rw (← k, ← l) refl
-
-    pub chain_on : true ≡ of_class class (node_at t n).kind → true ≡ link_fits (length t) n (node_at t n).next → chain_fits t class n ≡ chain_fits t class (node_at t n).next
-    chain_on k l = chain_at n nz w ∙ rw (← k, ← l) refl
-
-    pub chain_within : true ≡ link_fits (length t) n (node_at t n).next → (node_at t n).next ≤ length t
-    chain_within l = up_within t n (node_at t n).next (link_up t n (node_at t n).next (sym l))
-
-    pub chain_less : true ≡ link_fits (length t) n (node_at t n).next → left t (node_at t n).next < left t n
-    chain_less l = left_link t n (node_at t n).next (omega arith) w (link_up t n (node_at t n).next (sym l))
+use Rattle.checker.specs.Chain.{link_fits}
+use Rattle.checker.specs.Form.{ask_from, ask_each, hit, times_linked, links_fit, root_fits, shape_fits, shape_of, node_fits, sized, formed}
+use Rattle.checker.proofs.Trees.{link_up}
 
 -- a question asked of one node more
 module _ (test : ℕ → Node → Bool) (q : Question) (t : List Node) (i : ℕ) where
@@ -104,13 +39,6 @@ times_all t n i h = at_drop_all (λ (ds : List Node). times_linked ds n) t i h
 pub hit_one : (n l : ℕ) → hit n l ≤ 1
 hit_one n l = elim (cases_Bool (eqb l n)) [ inl e ↦ rw e (omega arith) | inr e ↦ rw e (omega arith) ]
 
-pub lower_within : (x y m : ℕ) → x ≤ m → y ≤ m → lower x y ≤ m
-lower_within x y m h k =
-    elim (cases_Bool (eqb x 0)) [
-      | inl e ↦ rw e k
-      | inr e ↦ elim (cases_Bool (eqb y 0)) [ inl f ↦ rw (e, f) h | inr f ↦ rw (e, f) (omega arith) ]
-    ]
-
 -- the links of a node that passed its test
 links_parts : (len n : ℕ) (d : Node) → links_fit len n d ≡ true → (link_fits len n d.a ≡ true) × (link_fits len n d.b ≡ true) × (link_fits len n d.c ≡ true) × (link_fits len n d.next ≡ true)
 links_parts len n d e =
@@ -118,14 +46,6 @@ links_parts len n d e =
     let q = and_parts (link_fits len n d.b) (link_fits len n d.c && link_fits len n d.next) p.1 in
     let r = and_parts (link_fits len n d.c) (link_fits len n d.next) q.1 in
     (p.0, q.0, r.0, r.1)
-
-pub links_within : (t : List Node) (n : ℕ) (d : Node) → true ≡ links_fit (length t) n d → (d.a ≤ length t) × (d.b ≤ length t) × (d.c ≤ length t)
-links_within t n d e =
-    let p = links_parts (length t) n d (sym e) in (
-      up_within t n d.a (link_up t n d.a p.0),
-      up_within t n d.b (link_up t n d.b p.1),
-      up_within t n d.c (link_up t n d.c p.2),
-    )
 
 -- where no node failed, each passed
 asked_each : (test : ℕ → Node → Bool) (q : Question) (n : ℕ) (ds : List Node) → ask_from test q n ds ≡ Ok tt → (k : ℕ) → k < length ds → test (n + k) (get_or ds k blank) ≡ true
@@ -170,8 +90,3 @@ sized_parts len places e =
     let p = and_parts (leb 1 len) (leb len 4096 && leb len places) e in
     let q = and_parts (leb len 4096) (leb len places) p.1 in
     (leb-true _ _ p.0, leb-true _ _ q.0, leb-true _ _ q.1)
-
--- a node that is too deep is the lowest below itself
-pub deep_here : (t : List Node) (n depth : ℕ) → Linked t → (n ≡ 0 → ⊥) → n ≤ length t → 200 < depth → n ≡ lowest_deep depth (tree t n)
-deep_here t n depth linked nz w deep =
-    let e : ltb 200 depth ≡ true = lt-ltb _ _ deep in rw (tree_at t linked n nz w, e) refl

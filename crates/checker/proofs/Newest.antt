@@ -1,8 +1,8 @@
 -- One entry after the other, the newest first.
-use Rattle.std.proofs.Common.{◌≡◌, ℕ, ◌+◌, ◌-◌, ◌<◌, ◌≤◌, min, cond, eqb, List, [], ◌∷◌, reverse, length, get_or, take, set, Some, sym, ap, ◌∙◌, inl, inr, arith}
+use Rattle.std.proofs.Common.{◌≡◌, ℕ, ◌+◌, ◌<◌, ◌≤◌, min, List, [], ◌∷◌, reverse, length, get_or, take, set, sym, ap, ◌∙◌, inl, inr, arith}
 use Rattle.std.proofs.lemmas.List.{take_more, take_more_set, take_all, reverse-append, length-reverse, length-take-le}
-use Rattle.std.proofs.lemmas.Bool.{eq-eqb, ne_eqb, cond-true, cond-false, cases_lt}
-use Rattle.checker.specs.Search.{newest_first, find}
+use Rattle.std.proofs.lemmas.Bool.{cases_lt}
+use Rattle.checker.specs.Search.{newest_first}
 
 module _ {E : Type 0} where
   -- the last of the places is the newest
@@ -14,19 +14,6 @@ module _ {E : Type 0} where
 
   pub length_newest : (es : List E) (i : ℕ) → i ≤ length es → length (newest_first es i) ≡ i
   length_newest es i h = length-reverse (take i es) ∙ length-take-le i es h
-
-  step : (key : E → ℕ) (es : List E) (i k : ℕ) (e : E) → 0 < i → i ≤ length es → e ≡ get_or es (i - 1) e → find key (newest_first es i) k ≡ cond (eqb (key e) k) (Some e) (find key (newest_first es (i - 1)) k)
-  step key es i k e h l is =
-      let same : i ≡ i - 1 + 1 = omega arith in
-      ap (λ (n : ℕ). find key (newest_first es n) k) same
-      ∙ ap (λ (fs : List E). find key fs k) (newest_first_lem es (i - 1) e (omega arith))
-      ∙ ap (λ (x : E). cond (eqb (key x) k) (Some x) (find key (newest_first es (i - 1)) k)) (sym is)
-
-  pub find_here : (key : E → ℕ) (es : List E) (i k : ℕ) (e : E) → 0 < i → i ≤ length es → e ≡ get_or es (i - 1) e → key e ≡ k → find key (newest_first es i) k ≡ Some e
-  find_here key es i k e h l is same = step key es i k e h l is ∙ cond-true _ _ _ (eq-eqb _ _ same)
-
-  pub find_past : (key : E → ℕ) (es : List E) (i k : ℕ) (e : E) → 0 < i → i ≤ length es → e ≡ get_or es (i - 1) e → (key e ≡ k → ⊥) → find key (newest_first es i) k ≡ find key (newest_first es (i - 1)) k
-  find_past key es i k e h l is ne = step key es i k e h l is ∙ cond-false _ _ _ (ne_eqb _ _ ne)
 
   -- places past the last are none
   pub newest_min : (es : List E) (n : ℕ) → newest_first es n ≡ newest_first es (min n (length es))

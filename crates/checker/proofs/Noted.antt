@@ -1,5 +1,5 @@
 -- Notes that are taken back.
-use Rattle.std.proofs.Common.{◌≡◌, ℕ, zero, suc, ◌+◌, ◌≤◌, List, [], ◌∷◌, length, drop, set, sym, refl, ap, ◌∙◌, add-one, arith}
+use Rattle.std.proofs.Common.{◌≡◌, ℕ, zero, suc, min, List, [], ◌∷◌, ◌++◌, length, drop, replicate, sym, refl, ap, arith}
 use Rattle.checker.specs.declared.note.Note.{Note}
 use Rattle.checker.specs.Notes.{cleared, unnoted}
 
@@ -7,21 +7,14 @@ pub cleared_none : (n : ℕ) → cleared n [] ≡ []
 cleared_none zero = refl
 cleared_none (suc n) = refl
 
-cleared_suc : (i : ℕ) (notes : List Note) → set (cleared i notes) i unnoted ≡ cleared (suc i) notes
-cleared_suc zero [] = refl
-cleared_suc zero (x ∷ notes) = refl
-cleared_suc (suc i) [] = refl
-cleared_suc (suc i) (x ∷ notes) = ap (λ (r : List Note). unnoted ∷ r) (cleared_suc i notes)
-
-pub cleared_more : (i : ℕ) (notes : List Note) → set (cleared i notes) i unnoted ≡ cleared (i + 1) notes
-cleared_more i notes = rw add-one (cleared_suc i notes)
-
-pub cleared_past : (i n : ℕ) (notes : List Note) → length notes ≤ i → length notes ≤ n → cleared i notes ≡ cleared n notes
-cleared_past i n [] h k = cleared_none i ∙ sym (cleared_none n)
-cleared_past zero n (x ∷ notes) h k = absurd (omega arith)
-cleared_past (suc i) zero (x ∷ notes) h k = absurd (omega arith)
-cleared_past (suc i) (suc n) (x ∷ notes) h k =
-    ap (λ (r : List Note). unnoted ∷ r) (cleared_past i n notes (omega arith) (omega arith))
+-- what a fill of the first places leaves
+pub filled : (m n : ℕ) (notes : List Note) → m ≡ min n (length notes) → replicate m unnoted ++ drop m notes ≡ cleared n notes
+filled zero n [] e = sym (cleared_none n)
+filled zero zero (x ∷ notes) e = refl
+filled zero (suc n) (x ∷ notes) e = absurd (omega arith)
+filled (suc m) n [] e = absurd (omega arith)
+filled (suc m) zero (x ∷ notes) e = absurd (omega arith)
+filled (suc m) (suc n) (x ∷ notes) e = ap (λ (r : List Note). unnoted ∷ r) (filled m n notes (omega arith))
 
 pub length-cleared : (n : ℕ) (notes : List Note) → length (cleared n notes) ≡ length notes
 length-cleared zero notes = refl

@@ -1,9 +1,11 @@
 -- How a tree hangs together.
-use Rattle.std.proofs.Common.{◌≡◌, ℕ, zero, suc, ◌-◌, ◌<◌, ◌≤◌, true, ◌&&◌, eqb, ltb, leb, ◌⊎◌, List, length, refl, inl, inr, arith}
-use Rattle.std.proofs.lemmas.Bool.{ne_eqb, cases_eq, or_cases, and_parts, eqb-true, ltb-true, leb-true}
+use Rattle.std.proofs.Common.{◌≡◌, ℕ, zero, suc, ◌-◌, ◌<◌, ◌≤◌, true, ◌&&◌, eqb, ltb, leb, ◌⊎◌, List, length, Some, None, sym, refl, ◌∙◌, inl, inr, arith}
+use Rattle.std.proofs.lemmas.Bool.{ne_eqb, eq-eqb, lt-ltb, le-leb, cases_eq, cases_lt, or_cases, and_parts, eqb-true, ltb-true, leb-true, cond-true, cond-false}
+use Rattle.std.proofs.lemmas.Option.{slice_get_within, get_or_from_slice_get, slice_get-get_or}
+use Rattle.std.specs.List.{slice_get}
 use Rattle.checker.specs.declared.node.Node.{Node}
-use Rattle.checker.specs.Tree.{Tree, none, at, grow, tree, node_at, Linked, Up, left}
-use Rattle.checker.specs.Form.{link_fits}
+use Rattle.checker.specs.Tree.{Tree, none, at, grow, tree, node_at, item_at, blank, Linked, Links, Up, left}
+use Rattle.checker.specs.Chain.{link_fits, following}
 
 -- a link stays in the table
 pub up_within : (t : List Node) (n l : ℕ) → Up t n l → l ≤ length t
@@ -84,38 +86,79 @@ left_link t n l pos w u =
       | inr ne ↦ let p : 0 < l = omega arith in omega (arith, left_at t n pos, left_at t l p, u ne)
     ]
 
+-- node n is there, and is d
+pub record Here (t : List Node) (n : ℕ) (d : Node) : Type 0 where
+  pub some : n ≡ 0 → ⊥
+  pub within : n ≤ length t
+  pub is : node_at t n ≡ d
+
+pub item_here : (t : List Node) (n : ℕ) (d : Node) → item_at t n ≡ Some d → Here t n d
+item_here t n d e =
+    elim (cases_eq n 0) [
+      | inl z ↦ let x = sym (cond-true _ None (slice_get t (n - 1)) (eq-eqb n 0 z)) ∙ e in let w : ◌≡◌ {A = ℕ} 0 1 = cc in absurd (omega arith)
+      | inr nz ↦
+          let got : slice_get t (n - 1) ≡ Some d = sym (cond-false _ None (slice_get t (n - 1)) (ne_eqb n 0 nz)) ∙ e in
+          let inside : n - 1 < length t = slice_get_within t (n - 1) d got in
+          record { some = nz; within = omega arith; is = get_or_from_slice_get t (n - 1) d blank got }
+    ]
+
+-- no node n is there: n is 0, or above the last
+pub item_out : (t : List Node) (n : ℕ) → item_at t n ≡ None → (suc (length t) - n ≡ 0) ⊎ (n ≡ 0)
+item_out t n e =
+    elim (cases_eq n 0) [
+      | inl z ↦ inr z
+      | inr nz ↦
+          let none : slice_get t (n - 1) ≡ None = sym (cond-false _ None (slice_get t (n - 1)) (ne_eqb n 0 nz)) ∙ e in
+          elim (cases_lt (n - 1) (length t)) [
+            | inl h ↦ let x = sym (slice_get-get_or t (n - 1) blank h) ∙ none in let w : ◌≡◌ {A = ℕ} 0 1 = cc in absurd (omega arith)
+            | inr h ↦ inl (omega arith)
+          ]
+    ]
+
+pub tree_out : (t : List Node) (n : ℕ) → item_at t n ≡ None → tree t n ≡ none
+unfolding tree
+tree_out t n e =
+    elim (item_out t n e) [
+      | inl z ↦ rw z refl
+      | inr z ↦ tree_none t n z
+    ]
+
 -- what a node's links come to
-module _ (t : List Node) (linked : Linked t) (n : ℕ) (nz : n ≡ 0 → ⊥) (w : n ≤ length t) where
-  pos : 0 < n
-  pos = omega arith
+module _ {t : List Node} (linked : Linked t) {n : ℕ} {d : Node} (here : Here t n d) where
+  links : Links t n
+  links = let nz : n ≡ 0 → ⊥ = here.some in linked n (omega arith) here.within
 
-  pub less_a : left t (node_at t n).a < left t n
-  less_a = left_link t n (node_at t n).a pos w (linked n pos w).to_a
+  less : (l : ℕ) → Up t n l → left t l < left t n
+  less l u = let nz : n ≡ 0 → ⊥ = here.some in left_link t n l (omega arith) here.within u
 
-  pub less_b : left t (node_at t n).b < left t n
-  less_b = left_link t n (node_at t n).b pos w (linked n pos w).to_b
+  pub less_a : left t d.a < left t n
+  less_a = less d.a (rw (← here.is) links.to_a)
 
-  pub less_c : left t (node_at t n).c < left t n
-  less_c = left_link t n (node_at t n).c pos w (linked n pos w).to_c
+  pub less_b : left t d.b < left t n
+  less_b = less d.b (rw (← here.is) links.to_b)
 
-  pub less_next : left t (node_at t n).next < left t n
-  less_next = left_link t n (node_at t n).next pos w (linked n pos w).to_next
+  pub less_c : left t d.c < left t n
+  less_c = less d.c (rw (← here.is) links.to_c)
 
-  pub within_a : (node_at t n).a ≤ length t
-  within_a = up_within t n (node_at t n).a (linked n pos w).to_a
+  pub less_next : left t d.next < left t n
+  less_next = less d.next (rw (← here.is) links.to_next)
 
-  pub within_b : (node_at t n).b ≤ length t
-  within_b = up_within t n (node_at t n).b (linked n pos w).to_b
+  pub tree_here : tree t n ≡ at n d (tree t d.a) (tree t d.b) (tree t d.c) (tree t d.next)
+  tree_here = rw (← here.is) (tree_at t linked n here.some here.within)
 
-  pub within_c : (node_at t n).c ≤ length t
-  within_c = up_within t n (node_at t n).c (linked n pos w).to_c
+  -- a link that goes up is followed
+  pub following_linked : following (length t) n (node_at t n).next ≡ d.next
+  following_linked =
+      elim (cases_eq d.next 0) [
+        | inl z ↦ rw (here.is, z) refl
+        | inr nz ↦
+            let u : (n < d.next) × (d.next ≤ length t) = rw here.is at links.to_next nz in
+            rw (here.is, ne_eqb d.next 0 nz, lt-ltb n d.next u.0, le-leb d.next (length t) u.1) refl
+      ]
 
-  pub within_next : (node_at t n).next ≤ length t
-  within_next = up_within t n (node_at t n).next (linked n pos w).to_next
-
-pub left_within : (t : List Node) (n : ℕ) → n ≤ length t → left t n ≤ length t
+pub left_within : (t : List Node) (n : ℕ) → left t n ≤ length t
 unfolding left
-left_within t n w =
+left_within t n =
     elim (cases_eq n 0) [
       | inl e ↦ let z : left t n ≡ 0 = rw e refl in omega arith
       | inr ne ↦ let p : 0 < n = omega arith in omega (arith, left_at t n p)

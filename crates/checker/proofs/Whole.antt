@@ -17,18 +17,9 @@ module _ (t : List Node) (notes : List Note) where
   passes s = cond-true _ _ _ s
 
   -- a table of a good size, by what the questions about its nodes come to
-  good_size : sized (length t) (length notes) ≡ true → checked t notes ≡ then (formed t) (λ (_ : Unit {0}). program t (cleared (length t) notes))
+  pub good_size : sized (length t) (length notes) ≡ true → checked t notes ≡ then (formed t) (λ (_ : Unit {0}). program t (cleared (length t) notes))
   unfolding checked
   good_size s = rw (passes s) refl
-
-  pub nodes_refused : (f : Refusal) (r : Result (Unit {0}) Refusal) → sized (length t) (length notes) ≡ true → Err f ≡ formed t → r ≡ Err f → checked t notes ≡ leaves r notes
-  nodes_refused f r s e b = good_size s ∙ rw (← e, b) refl
-
-  pub walked : (notes₁ notes₂ : List Note) (r : Result (Unit {0}) Refusal) → sized (length t) (length notes) ≡ true → Ok tt ≡ formed t → notes₁ ≡ cleared (length t) notes → program t notes₁ ≡ leaves r notes₂ → checked t notes ≡ leaves r notes₂
-  walked notes₁ notes₂ r s e c p = good_size s ∙ rw (← e, ← c) p
-
-  pub walked_beyond : (notes₁ notes₂ : List Note) → notes₁ ≡ cleared (length t) notes → drop (length t) notes₂ ≡ drop (length t) notes₁ → drop (length t) notes₂ ≡ drop (length t) notes
-  walked_beyond notes₁ notes₂ c b = b ∙ ap (drop (length t)) c ∙ cleared_beyond (length t) notes
 
   pub size_yes : Ok tt ≡ ask_size (length t) (length notes) → sized (length t) (length notes) ≡ true
   size_yes e =

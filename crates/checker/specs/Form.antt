@@ -1,5 +1,6 @@
 -- The form of a table: questions about every node, whether or not it is reached.
-use Rattle.std.specs.Prelude.{ℕ, zero, suc, ◌+◌, ◌-◌, min, Bool, true, false, cond, not, ◌&&◌, ◌||◌, List, [], ◌∷◌, length, Some, None, Ok, Option, Result, ◌==◌, nat_le, nat_lt}
+use Rattle.std.specs.Prelude.{ℕ, ◌+◌, Bool, true, false, cond, not, ◌&&◌, ◌||◌, List, [], ◌∷◌, length, Some, None, Ok, Option, Result, ◌==◌, nat_le, nat_lt}
+use Rattle.std.specs.List.{list_all}
 use Rattle.checker.specs.declared.node.Node.{Node}
 use Rattle.checker.specs.declared.refusal.Refusal.{Refusal}
 use Rattle.checker.specs.declared.refusal.Question.{Question}
@@ -12,7 +13,8 @@ use Rattle.checker.specs.declared.shape.Content.{Content}
 use Rattle.checker.specs.declared.shape.Content.TheVariants.{Nothing, MainName, CalledName, IntLiteral}
 use Rattle.checker.specs.declared.shape.Shape.{Shape}
 use Rattle.checker.specs.Questions.{refuse, then}
-use Rattle.checker.specs.Tree.{Tree, none, at, tree, node_at}
+use Rattle.checker.specs.Tree.{Tree, none, at, tree, item_at}
+use Rattle.checker.specs.Chain.{link_fits, chain}
 
 -- which kinds are of a class: statements are 10 to 12 and 14 to 18, expressions 20 to 41
 abbrev pub of_class : Class → ℕ → Bool
@@ -45,24 +47,17 @@ content_fits MainName v = v == 10
 content_fits CalledName v = v == 2 || (v == 3 || (v == 9 || (v == 10 || (nat_le 16 v && nat_le v 255))))
 content_fits IntLiteral v = nat_le v 2147483647
 
--- a link of node n, in a table of so many nodes, is 0 or goes up and stays inside
-abbrev pub link_fits : ℕ → ℕ → ℕ → Bool
-link_fits len n l = l == 0 || (nat_lt n l && nat_le l len)
-
 -- every item of a chain is of the class, as far as the links from item to item are right
-abbrev pub chain_grows : List Node → Class → ℕ → ℕ → Bool
-chain_grows t class zero n = true
-chain_grows t class (suc room) n =
-    cond (n == 0) true
-    (of_class class (node_at t n).kind
-    && cond (link_fits (length t) n (node_at t n).next) (chain_grows t class room (node_at t n).next) true)
+abbrev pub chain_fits : List Node → Class → ℕ → Bool
+chain_fits t class n = list_all (λ p. of_class class p.1.kind) (chain t n)
 
-unfoldable pub chain_fits : List Node → Class → ℕ → Bool
-chain_fits t class n = chain_grows t class (suc (length t) - n) n
+-- a single child is there, is of the class and nothing follows it
+abbrev pub single_fits : Class → Option Node → Bool
+single_fits class None = false
+single_fits class (Some d) = of_class class d.kind && d.next == 0
 
--- a single child is of the class and nothing follows it
 abbrev pub one_fits : List Node → Class → ℕ → Bool
-one_fits t class n = not (n == 0) && (of_class class (node_at t n).kind && (node_at t n).next == 0)
+one_fits t class n = single_fits class (item_at t n)
 
 abbrev pub child_fits : List Node → Child → ℕ → Bool
 child_fits t Absent l = l == 0
@@ -110,19 +105,22 @@ times_linked (d ∷ ds) n = hit n d.a + hit n d.b + hit n d.c + hit n d.next + t
 abbrev pub linked_once : List Node → ℕ → Node → Bool
 linked_once t n d = n == 1 || times_linked t n == 1
 
--- the lower of two node numbers, where 0 is none
-abbrev pub lower : ℕ → ℕ → ℕ
-lower x y = cond (x == 0) y (cond (y == 0) x (min x y))
+-- the lower of two nodes, each with its number
+abbrev pub lower : Option (ℕ × Node) → Option (ℕ × Node) → Option (ℕ × Node)
+lower None y = y
+lower (Some x) None = Some x
+lower (Some x) (Some y) = cond (nat_lt y.0 x.0) (Some y) (Some x)
 
--- the lowest node that is more than 200 deep, or 0: children are a level deeper, a chain is equally deep
-abbrev pub lowest_deep : ℕ → Tree → ℕ
-lowest_deep depth none = 0
+-- the lowest node that is more than 200 deep: children are a level deeper, a chain is equally deep
+abbrev pub lowest_deep : ℕ → Tree → Option (ℕ × Node)
+lowest_deep depth none = None
 lowest_deep depth (at n d a b c next) =
-    cond (nat_lt 200 depth) n
+    cond (nat_lt 200 depth) (Some (n, d))
     (lower (lower (lowest_deep (depth + 1) a) (lower (lowest_deep (depth + 1) b) (lowest_deep (depth + 1) c))) (lowest_deep depth next))
 
-abbrev pub shallow : List Node → ℕ → Result (Unit {0}) Refusal
-shallow t n = cond (n == 0) (Ok tt) (refuse Depth n (node_at t n).line)
+abbrev pub shallow : Option (ℕ × Node) → Result (Unit {0}) Refusal
+shallow None = Ok tt
+shallow (Some p) = refuse Depth p.0 p.1.line
 
 -- 1 to 4,096 nodes, and a place for each note
 abbrev pub sized : ℕ → ℕ → Bool
@@ -136,4 +134,4 @@ ask_size len places = cond (sized len places) (Ok tt) (refuse TableSize 0 0)
 abbrev pub formed : List Node → Result (Unit {0}) Refusal
 formed t =
     then (ask_each (node_fits t) NodeForm t)
-    (λ _. then (ask_each (linked_once t) LinkedOnce t) (λ _. shallow t (lowest_deep 1 (tree t 1))))
+    (λ _. then (ask_each (linked_once t) LinkedOnce t) (λ _. shallow (lowest_deep 1 (tree t 1))))

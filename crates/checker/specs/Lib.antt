@@ -1,6 +1,7 @@
 pub mod Questions
 pub mod Notes
 pub mod Tree
+pub mod Chain
 pub mod Search
 pub mod Scope
 pub mod Form

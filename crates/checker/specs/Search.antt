@@ -1,5 +1,6 @@
 -- The newest entry with a key.
-use Rattle.std.specs.Prelude.{ℕ, cond, List, [], ◌∷◌, reverse, take, Some, None, Option, ◌==◌}
+use Rattle.std.specs.Prelude.{ℕ, List, reverse, take, Option, ◌==◌}
+use Rattle.std.specs.List.{find as first_that}
 
 module _ {E : Type 0} where
   -- the entries in the first count places, the newest first
@@ -8,5 +9,4 @@ module _ {E : Type 0} where
 
   -- the first entry with that key
   abbrev pub find : (E → ℕ) → List E → ℕ → Option E
-  find key [] k = None
-  find key (e ∷ es) k = cond (key e == k) (Some e) (find key es k)
+  find key es k = first_that (λ e. key e == k) es

@@ -12,7 +12,7 @@ use Rattle.checker.specs.declared.types.Arguments.{Arguments}
 use Rattle.checker.specs.Questions.{refuse, then}
 use Rattle.checker.specs.Notes.{put}
 use Rattle.checker.specs.Scope.{means}
-use Rattle.checker.specs.Tree.{Tree, none, at, tree, node_at}
+use Rattle.checker.specs.Tree.{Tree, none, at, tree}
 
 -- the number of a type in a note: 2 int, 7 a call without a value
 abbrev pub type_number : Ty → ℕ
@@ -94,9 +94,9 @@ abbrev pub carries : {X : Type 0} → Result X Refusal → List Note → Out X
 carries (Ok x) notes = Ok (x, notes)
 carries (Err e) notes = Err e
 
--- The expression at node n was typed with these names in scope: the answer was r, with these notes after it.
-pub record Types (t : List Node) (scope : List Name) (n : ℕ) (notes : List Note) (r : Result Ty Refusal) (notes' : List Note) : Type 0 where
-  pub result : type_at scope n (node_at t n) (values scope (tree t (node_at t n).a)) notes ≡ carries r notes'
+-- The expression d at node n was typed with these names in scope: the answer was r, with these notes after it.
+pub record Types (t : List Node) (scope : List Name) (n : ℕ) (d : Node) (notes : List Note) (r : Result Ty Refusal) (notes' : List Note) : Type 0 where
+  pub result : type_at scope n d (values scope (tree t d.a)) notes ≡ carries r notes'
   pub beyond : drop (length t) notes' ≡ drop (length t) notes
 
 -- The chain of expressions on a link was typed.

@@ -1,15 +1,19 @@
 // The questions about the whole table: its size, the form of each node, that
 // each is linked once, and that none is too deep.
-ghost use Rattle.std.specs.Prelude.{◌≡◌, ◌+◌, ◌<◌, ◌≤◌, length};
-ghost use Rattle.checker.specs.Tree.{blank, node_at, Linked, tree};
+ghost use Rattle.std.specs.Prelude.{◌≡◌, ◌≤◌, ℕ, Bool, length, Ok, Err, IfOk, MatchResult};
+ghost use Rattle.checker.specs.declared.node.Node.{Node};
+ghost use Rattle.checker.specs.Tree.{blank, tree};
 ghost use Rattle.checker.specs.Form.{chain_fits, one_fits, child_fits, shape_fits, node_fits, ask_each, hit, times_linked, linked_once, lower, lowest_deep, shallow, ask_size, formed};
 
+use crate::chain::Chain;
 use crate::node::Node;
 use crate::refusal::{Question, Refusal};
+use crate::script::{Script, Table};
 use crate::shape::{
     Child, Class, Shape, content_fits, is_of_class, link_fits, links_fit, root_fits, shape_of,
     type_fits,
 };
+use crate::table::item_at;
 
 const DEEPEST: u8 = 200;
 
@@ -18,36 +22,21 @@ const MOST_NODES: usize = 4096;
 // Is every item of the chain of this class, as far as the links between them
 // are right? A wrong link is its own node's fault.
 fn chain_fits(table: &[Node], class: Class, first: u16) -> bool
-    requires { first ≤ length table.now }
     ensures { result ≡ chain_fits table.now class first }
 {
-    let mut at = first;
-    while at != 0 {
-        let node = table[at as usize - 1];
-        if !is_of_class(class, node.kind) {
-            return false;
-        }
-        if !link_fits(table.len(), at, node.next) {
-            return true;
-        }
-        at = node.next;
-    }
-    true
+    Chain::new(table, first).all(|(_, node)| is_of_class(class, node.kind))
 }
 
 fn one_fits(table: &[Node], class: Class, link: u16) -> bool
-    requires { link ≤ length table.now }
     ensures { result ≡ one_fits table.now class link }
 {
-    if link == 0 {
-        return false;
+    match item_at(table, link) {
+        Some(node) => is_of_class(class, node.kind) && node.next == 0,
+        None => false,
     }
-    let node = table[link as usize - 1];
-    is_of_class(class, node.kind) && node.next == 0
 }
 
 fn child_fits(table: &[Node], child: Child, link: u16) -> bool
-    requires { link ≤ length table.now }
     ensures { result ≡ child_fits table.now child link }
 {
     match child {
@@ -59,7 +48,6 @@ fn child_fits(table: &[Node], child: Child, link: u16) -> bool
 }
 
 fn shape_fits(table: &[Node], node: Node, shape: Option<Shape>) -> bool
-    requires { (node.a ≤ length table.now) × (node.b ≤ length table.now) × (node.c ≤ length table.now) }
     ensures { result ≡ shape_fits table.now node shape }
 {
     let Some(shape) = shape else {
@@ -75,28 +63,37 @@ fn shape_fits(table: &[Node], node: Node, shape: Option<Shape>) -> bool
 fn node_fits(table: &[Node], number: u16, node: Node) -> bool
     ensures { result ≡ node_fits table.now number node }
 {
-    if !links_fit(table.len(), number, node) {
-        return false;
-    }
-    root_fits(number, node) && shape_fits(table, node, shape_of(node.kind))
+    links_fit(table.len(), number, node)
+        && root_fits(number, node)
+        && shape_fits(table, node, shape_of(node.kind))
 }
 
-fn ask_form(table: &[Node]) -> Result<(), Refusal>
-    requires { length table.now ≤ 4096 }
-    ensures { result ≡ ask_each (node_fits table.now) Question.NodeForm table.now }
+// A question asked of each node, in number order.
+fn ask_each<F: Fn(u16, Node) -> bool>(
+    table: Table,
+    question: Question,
+    test: F,
+) -> Result<(), Refusal>
+    requires { F.IsAlwaysCallable test }
+    ensures { (answers : ℕ → Node → Bool)
+        → ((n : ℕ) (d : Node) (b : Bool) → F.post test n d b → b ≡ answers n d)
+        → result ≡ ask_each answers question table.entry.nodes.now }
 {
-    for i in 0..table.len() {
-        let node = table[i];
-        let number = (i + 1) as u16;
-        if !node_fits(table, number, node) {
-            return Err(Refusal {
-                question: Question::NodeForm,
-                node: number,
-                line: node.line,
-            });
+    for (i, node) in table.nodes.iter().enumerate() {
+        let number = i as u16 + 1;
+        if !test(number, *node) {
+            return Err(Refusal::new(question, number, node.line));
         }
     }
     Ok(())
+}
+
+fn ask_form(table: Table) -> Result<(), Refusal>
+    ensures { result ≡ ask_each (node_fits table.entry.nodes.now) Question.NodeForm table.entry.nodes.now }
+{
+    ask_each(table, Question::NodeForm, |number, node| {
+        node_fits(table.nodes, number, node)
+    })
 }
 
 // 1 where the link leads to that node.
@@ -106,12 +103,11 @@ fn hits(number: u16, link: u16) -> usize
     if link == number { 1 } else { 0 }
 }
 
-fn times_linked(table: &[Node], number: u16) -> usize
-    requires { length table.now ≤ 4096 }
-    ensures { result ≡ times_linked table.now number }
+fn times_linked(table: Table, number: u16) -> usize
+    ensures { result ≡ times_linked table.entry.nodes.now number }
 {
     let mut times = 0;
-    for node in table {
+    for node in table.nodes {
         times += hits(number, node.a)
             + hits(number, node.b)
             + hits(number, node.c)
@@ -120,102 +116,75 @@ fn times_linked(table: &[Node], number: u16) -> usize
     times
 }
 
-fn linked_once(table: &[Node], number: u16) -> bool
-    requires { length table.now ≤ 4096 }
-    ensures { result ≡ linked_once table.now number blank }
+fn linked_once(table: Table, number: u16) -> bool
+    ensures { result ≡ linked_once table.entry.nodes.now number blank }
 {
     number == 1 || times_linked(table, number) == 1
 }
 
-fn ask_links(table: &[Node]) -> Result<(), Refusal>
-    requires { length table.now ≤ 4096 }
-    ensures { result ≡ ask_each (linked_once table.now) Question.LinkedOnce table.now }
+fn ask_links(table: Table) -> Result<(), Refusal>
+    ensures { result ≡ ask_each (linked_once table.entry.nodes.now) Question.LinkedOnce table.entry.nodes.now }
 {
-    for i in 0..table.len() {
-        let number = (i + 1) as u16;
-        if !linked_once(table, number) {
-            return Err(Refusal {
-                question: Question::LinkedOnce,
-                node: number,
-                line: table[i].line,
-            });
-        }
-    }
-    Ok(())
+    ask_each(table, Question::LinkedOnce, |number, _| {
+        linked_once(table, number)
+    })
 }
 
-// The lower of two nodes, where 0 is none.
-fn lower_of(x: u16, y: u16) -> u16
+// The lower of two nodes, each with its number.
+fn lower_of(x: Option<(u16, Node)>, y: Option<(u16, Node)>) -> Option<(u16, Node)>
     ensures { result ≡ lower x y }
 {
-    if x == 0 {
-        y
-    } else if y == 0 {
-        x
-    } else {
-        x.min(y)
+    match (x, y) {
+        (Some(x), Some(y)) if y.0 < x.0 => Some(y),
+        (Some(x), _) => Some(x),
+        (None, y) => y,
     }
 }
 
-// The lowest node from this link on that is too deep, or 0.
-#[tactic(auto, using(crate::proofs::Forms::deep_here))]
-fn lowest_deep(table: &[Node], link: u16, depth: u8) -> u16
-    requires linked { Linked table.now }
-    requires within { link ≤ length table.now }
+// The lowest node from this link on that is too deep.
+fn lowest_deep(script: Script, link: u16, depth: u8) -> Option<(u16, Node)>
     requires level { depth ≤ 201 }
-    ensures value { result ≡ lowest_deep depth (tree table.now link) }
-    ensures within { result ≤ length table.now }
+    ensures { result ≡ lowest_deep depth (tree script.entry.nodes.now link) }
 {
-    if link == 0 {
-        return 0;
-    }
+    let node = item_at(script.nodes, link)?;
     if depth > DEEPEST {
-        return link;
+        return Some((link, node));
     }
-    let node = table[link as usize - 1];
-    let a = lowest_deep(table, node.a, depth + 1);
-    let b = lowest_deep(table, node.b, depth + 1);
-    let c = lowest_deep(table, node.c, depth + 1);
-    let next = lowest_deep(table, node.next, depth);
+    let a = lowest_deep(script, node.a, depth + 1);
+    let b = lowest_deep(script, node.b, depth + 1);
+    let c = lowest_deep(script, node.c, depth + 1);
+    let next = lowest_deep(script, node.next, depth);
     lower_of(lower_of(a, lower_of(b, c)), next)
 }
 
-fn ask_depth(table: &[Node]) -> Result<(), Refusal>
-    requires linked { Linked table.now }
-    requires some { 1 ≤ length table.now }
-    ensures { result ≡ shallow table.now (lowest_deep 1 (tree table.now 1)) }
+fn ask_depth(script: Script) -> Result<(), Refusal>
+    ensures { result ≡ shallow (lowest_deep 1 (tree script.entry.nodes.now 1)) }
 {
-    let deep = lowest_deep(table, 1, 1);
-    if deep == 0 {
-        return Ok(());
+    match lowest_deep(script, 1, 1) {
+        None => Ok(()),
+        Some((number, node)) => Err(Refusal::new(Question::Depth, number, node.line)),
     }
-    Err(Refusal {
-        question: Question::Depth,
-        node: deep,
-        line: table[deep as usize - 1].line,
-    })
 }
 
 // Are there 1 to 4,096 nodes, and as many places for notes?
 pub(crate) fn ask_size(len: usize, places: usize) -> Result<(), Refusal>
     ensures { result ≡ ask_size len places }
 {
+    // Node 0 and line 0 tell hosts that no node is at fault.
     if len < 1 || len > MOST_NODES || len > places {
-        return Err(Refusal {
-            question: Question::TableSize,
-            node: 0,
-            line: 0,
-        });
+        return Err(Refusal::new(Question::TableSize, 0, 0));
     }
     Ok(())
 }
 
 // The questions about every node, in their order.
-pub(crate) fn ask_nodes(table: &[Node]) -> Result<(), Refusal>
-    requires { (1 ≤ length table.now) × (length table.now ≤ 4096) }
-    ensures { result ≡ formed table.now }
+pub(crate) fn ask_nodes(table: Table) -> Result<Script, Refusal>
+    ensures script { IfOk result (λ s. s.nodes ≡ table.entry.nodes) }
+    ensures answer { MatchResult result (λ _. formed table.entry.nodes.now ≡ Ok tt) (λ f. formed table.entry.nodes.now ≡ Err f) }
 {
     ask_form(table)?;
     ask_links(table)?;
-    ask_depth(table)
+    let script = Script { nodes: table.nodes };
+    ask_depth(script)?;
+    Ok(script)
 }

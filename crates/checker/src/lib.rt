@@ -2,6 +2,7 @@
 // of a script and VC's rules give it types.
 #![tactic(auto)]
 
+mod chain;
 pub mod check;
 mod declarations;
 mod expressions;
@@ -9,10 +10,12 @@ mod form;
 pub mod node;
 pub mod note;
 pub mod refusal;
+mod script;
 pub mod search;
 mod shape;
 pub mod shelf;
 mod statements;
+pub mod table;
 pub mod types;
 
 pub use check::{check_table, clear_notes};

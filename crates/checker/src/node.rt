@@ -1,7 +1,7 @@
 // One node of a script's table.
 //
 // Nodes are numbered from 1. `a`, `b` and `c` name children and `next` the
-// following item of a chain; 0 is no link.
+// following item of a chain; 0 is no link. All are numbers, as hosts write them.
 #[derive(Clone, Copy, Debug, Default, PartialEq, Eq)]
 pub struct Node {
     pub kind: u8,

@@ -1,4 +1,4 @@
-// What the check notes of a node.
+// What the check notes of a node, in numbers that hosts read.
 #[derive(Clone, Copy, Debug, Default, PartialEq, Eq)]
 pub struct Note {
     // the type of an expression: 1 boolean, 2 int, 3 float, 7 a call without a value

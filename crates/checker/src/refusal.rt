@@ -3,55 +3,55 @@ ghost use Rattle.std.specs.Prelude.{◌≡◌};
 ghost use Rattle.checker.specs.Questions.{question_number};
 
 // The questions that a check asks. Each has a number that hosts know it by.
-#[derive(Clone, Copy)]
+#[derive(Clone, Copy, Debug, PartialEq, Eq)]
 pub enum Question {
     // Are there 1 to 4,096 nodes, and as many places for notes?
-    TableSize,
+    TableSize = 1,
     // Does each node have the form of its kind?
-    NodeForm,
+    NodeForm = 2,
     // Is each node but the first linked exactly once?
-    LinkedOnce,
+    LinkedOnce = 3,
     // Is every node at most 200 deep?
-    Depth,
+    Depth = 4,
     // Is a declared name new in its block?
-    NewName,
+    NewName = 5,
     // Is a used name in scope?
-    InScope,
+    InScope = 9,
     // Are there as many arguments as parameters?
-    ArgumentCount,
+    ArgumentCount = 11,
     // Does a value have the type that is wanted?
-    WantedType,
+    WantedType = 12,
     // Is main an int function without parameters, and is there one?
-    MainForm,
+    MainForm = 18,
     // Is a called function not main?
-    NotMain,
+    NotMain = 19,
     // Are at most 512 names on the shelf?
-    ShelfRoom,
+    ShelfRoom = 20,
 }
 
 impl Question {
     pub fn number(self) -> u8
         ensures { result ≡ question_number self }
     {
-        match self {
-            Question::TableSize => 1,
-            Question::NodeForm => 2,
-            Question::LinkedOnce => 3,
-            Question::Depth => 4,
-            Question::NewName => 5,
-            Question::InScope => 9,
-            Question::ArgumentCount => 11,
-            Question::WantedType => 12,
-            Question::MainForm => 18,
-            Question::NotMain => 19,
-            Question::ShelfRoom => 20,
-        }
+        self as u8
     }
 }
 
-#[derive(Clone, Copy)]
+#[derive(Clone, Copy, Debug, PartialEq, Eq)]
 pub struct Refusal {
     pub question: Question,
     pub node: u16,
     pub line: u16,
+}
+
+impl Refusal {
+    pub(crate) fn new(question: Question, node: u16, line: u16) -> Refusal
+        ensures { result ≡ record { question = question; node = node; line = line } }
+    {
+        Refusal {
+            question,
+            node,
+            line,
+        }
+    }
 }

@@ -14,13 +14,10 @@ pub trait Keyed {
 pub fn newest<E: Keyed + Copy>(entries: &[E], count: usize, key: u32) -> Option<E>
     ensures { result ≡ find E.Keyed.key (newest_first entries.now count) key }
 {
-    let mut i = count.min(entries.len());
-    while i > 0 {
-        i -= 1;
-        let entry = entries[i];
-        if entry.key() == key {
-            return Some(entry);
-        }
-    }
-    None
+    let end = count.min(entries.len());
+    entries[..end]
+        .iter()
+        .rev()
+        .find(|entry| entry.key() == key)
+        .copied()
 }

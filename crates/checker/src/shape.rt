@@ -1,11 +1,12 @@
 // The form of each kind of node.
 ghost use Rattle.std.specs.Prelude.{◌≡◌};
-ghost use Rattle.checker.specs.Form.{of_class, plain, shape_of, type_fits, content_fits, link_fits, links_fit, root_fits};
+ghost use Rattle.checker.specs.Chain.{link_fits};
+ghost use Rattle.checker.specs.Form.{of_class, plain, shape_of, type_fits, content_fits, links_fit, root_fits};
 
 use crate::node::Node;
 
 // What may stand at a child's place.
-#[derive(Clone, Copy)]
+#[derive(Clone, Copy, Debug, PartialEq, Eq)]
 pub enum Class {
     Declaration,
     Block,
@@ -15,7 +16,7 @@ pub enum Class {
 
 // What a link may hold. The items of a chain follow one another by `next`;
 // a single child has no `next`.
-#[derive(Clone, Copy)]
+#[derive(Clone, Copy, Debug, PartialEq, Eq)]
 pub enum Child {
     Absent,
     One(Class),
@@ -24,7 +25,7 @@ pub enum Child {
 }
 
 // What the value of a node holds.
-#[derive(Clone, Copy)]
+#[derive(Clone, Copy, Debug, PartialEq, Eq)]
 pub enum Content {
     Nothing,
     MainName,
@@ -32,7 +33,7 @@ pub enum Content {
     IntLiteral,
 }
 
-#[derive(Clone, Copy)]
+#[derive(Clone, Copy, Debug, PartialEq, Eq)]
 pub struct Shape {
     pub typed: bool,
     pub content: Content,

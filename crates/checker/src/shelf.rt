@@ -12,7 +12,7 @@ pub const SHELF_PLACES: usize = 512;
 #[derive(Clone, Copy, Debug, Default, PartialEq, Eq)]
 pub struct Name {
     pub name: u32,
-    // the node that declares it, 0 for a built-in
+    // the node that declares it; 0 for a built-in, as hosts read it
     pub declaration: u16,
 }
 
@@ -24,7 +24,8 @@ impl Keyed for Name {
     }
 }
 
-#[derive(Drop)]
+// The places of names stand beside it, so that a mark guards the count and names stay readable.
+#[derive(Debug, Default, PartialEq, Eq, Drop)]
 pub struct Shelf {
     pub count: usize,
 }

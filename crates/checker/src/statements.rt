@@ -1,67 +1,63 @@
 // The walk through statements. A block's names are taken off at its end.
-ghost use Rattle.std.specs.Prelude.{◌≡◌, ◌<◌, ◌≤◌, length};
+ghost use Rattle.std.specs.Prelude.{◌≡◌, ◌≤◌, length};
 ghost use Rattle.checker.specs.Search.{newest_first};
-ghost use Rattle.checker.specs.Tree.{Linked, tree, node_at};
+ghost use Rattle.checker.specs.Tree.{tree};
 ghost use Rattle.checker.specs.Typing.{values};
 ghost use Rattle.checker.specs.Judge.{statement_at, statements, Walks};
 
 use crate::expressions::type_chain;
-use crate::node::Node;
 use crate::note::Note;
 use crate::refusal::{Question, Refusal};
+use crate::script::{Place, Script};
 use crate::shelf::{Mark, Name, Shelf};
 
+// A struct of script and notes would have to promise at each call that it still lends the same
+// places; so notes go beside the script, and each walk asks for as many as there are nodes.
 #[cycle(walking)]
 fn walk_statement(
-    table: &[Node],
-    at: u16,
+    place: Place,
     shelf: &mut Shelf,
     names: &[Name],
     notes: &mut [Note],
 ) -> Result<(), Refusal>
-    requires linked { Linked table.now }
-    requires within { (0 < at) × (at ≤ length table.now) }
-    requires noted { length table.now ≤ length notes.old }
-    ensures { Walks table.now (statement_at at (node_at table.now at) (values (newest_first names.now shelf.old.count) (tree table.now (node_at table.now at).a)) (statements (newest_first names.now shelf.old.count) (tree table.now (node_at table.now at).b)) notes.old) shelf.old.count notes.old result shelf.new.count notes.new }
+    requires { length place.script.nodes.now ≤ length notes.old }
+    ensures { Walks place.entry.script.nodes.now (statement_at place.entry.number place.entry.node (values (newest_first names.now shelf.old.count) (tree place.entry.script.nodes.now place.entry.node.a)) (statements (newest_first names.now shelf.old.count) (tree place.entry.script.nodes.now place.entry.node.b)) notes.old) shelf.old.count notes.old result shelf.new.count notes.new }
 {
-    let node = table[at as usize - 1];
+    let node = place.node;
     match node.kind {
         10 => {
             let old = shelf.count;
             let mark = Mark { shelf, old };
-            walk_statements(table, node.b, mark.shelf, names, notes)?;
+            walk_statements(place.script, node.b, mark.shelf, names, notes)?;
             Ok(())
         }
         18 if node.a == 0 => Ok(()),
         18 => {
-            type_chain(table, node.a, shelf.count, names, notes)?;
+            type_chain(place.script, node.a, shelf.count, names, notes)?;
             Ok(())
         }
-        _ => Err(Refusal {
-            question: Question::NodeForm,
-            node: at,
-            line: node.line,
-        }),
+        _ => Err(place.no(Question::NodeForm)),
     }
 }
 
 #[cycle(walking)]
 pub(crate) fn walk_statements(
-    table: &[Node],
+    script: Script,
     first: u16,
     shelf: &mut Shelf,
     names: &[Name],
     notes: &mut [Note],
 ) -> Result<(), Refusal>
-    requires linked { Linked table.now }
-    requires within { first ≤ length table.now }
-    requires noted { length table.now ≤ length notes.old }
-    ensures { Walks table.now (statements (newest_first names.now shelf.old.count) (tree table.now first) notes.old) shelf.old.count notes.old result shelf.new.count notes.new }
+    requires { length script.nodes.now ≤ length notes.old }
+    ensures { Walks script.entry.nodes.now (statements (newest_first names.now shelf.old.count) (tree script.entry.nodes.now first) notes.old) shelf.old.count notes.old result shelf.new.count notes.new }
 {
-    let mut at = first;
-    while at != 0 {
-        walk_statement(table, at, shelf, names, notes)?;
-        at = table[at as usize - 1].next;
+    for (number, node) in script.chain(first) {
+        let place = Place {
+            script,
+            number,
+            node,
+        };
+        walk_statement(place, shelf, names, notes)?;
     }
     Ok(())
 }

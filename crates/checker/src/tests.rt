@@ -1,7 +1,7 @@
 use crate::check_table;
 use crate::node::Node;
 use crate::note::Note;
-use crate::refusal::Refusal;
+use crate::refusal::{Question, Refusal};
 use crate::shelf::{Name, Shelf};
 use std::process::Abort;
 
@@ -31,38 +31,14 @@ fn prints_seven() -> [Node; 6] {
     ]
 }
 
-#[derive(Drop)]
-struct Seen {
-    question: u8,
-    node: u16,
-    line: u16,
-}
-
-// What the check answers, with 0 for yes; the places of notes beyond the table must stay as they were.
-fn ask(table: &[Node], notes: &mut [Note; 8]) -> Seen {
+// What the check answers; the places of notes beyond the table must stay as they were.
+fn ask(table: &[Node], notes: &mut [Note; 8]) -> Result<(), Refusal> {
     let mut shelf = Shelf { count: 7 };
     let mut names = [Name {
         name: 9,
         declaration: 9,
     }; 512];
-    match check_table(table, notes, &mut shelf, &mut names) {
-        Ok(()) => Seen {
-            question: 0,
-            node: 0,
-            line: 0,
-        },
-        Err(
-            Refusal {
-                question,
-                node,
-                line,
-            },
-        ) => Seen {
-            question: question.number(),
-            node,
-            line,
-        },
-    }
+    check_table(table, notes, &mut shelf, &mut names)
 }
 
 fn fresh() -> [Note; 8] {
@@ -75,18 +51,16 @@ fn fresh() -> [Note; 8] {
 
 fn expect(rt: &impl Abort, table: &[Node], question: u8, at: u16) {
     let mut notes = fresh();
-    let seen = ask(table, &mut notes);
-    assert_eq!(rt; seen.question, question);
-    assert_eq!(rt; seen.node, at);
+    let answer = ask(table, &mut notes).map_err(|no| (no.question.number(), no.node));
+    assert_eq!(rt; answer, Err((question, at)));
     let first = if question == 1 { 9 } else { 0 };
-    assert!(rt; question == 0 || notes[0].ty == first);
+    assert_eq!(rt; notes[0].ty, first);
 }
 
 #[test]
 fn notes_of_an_accepted_table(rt: HostRuntime) {
     let mut notes = fresh();
-    let seen = ask(&prints_seven(), &mut notes);
-    assert_eq!(rt; seen.question, 0);
+    assert_eq!(rt; ask(&prints_seven(), &mut notes), Ok(()));
     assert_eq!(rt; notes[0].ty, 0);
     assert_eq!(rt; notes[4].ty, 7);
     assert_eq!(rt; notes[5].ty, 2);
@@ -99,10 +73,13 @@ fn a_line_comes_with_the_node(rt: HostRuntime) {
     let mut table = prints_seven();
     table[5].value = 2_147_483_648;
     let mut notes = fresh();
-    let seen = ask(&table, &mut notes);
-    assert_eq!(rt; seen.question, 2);
-    assert_eq!(rt; seen.node, 6);
-    assert_eq!(rt; seen.line, 20);
+    let refusal = Refusal {
+        question: Question::NodeForm,
+        node: 6,
+        line: 20,
+    };
+    assert_eq!(rt; ask(&table, &mut notes), Err(refusal));
+    assert_eq!(rt; refusal.question.number(), 2);
 }
 
 #[test]

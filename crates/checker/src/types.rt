@@ -1,12 +1,12 @@
-// The type of an expression.
-#[derive(Clone, Copy)]
+// The type of an expression, by its number in a note.
+#[derive(Clone, Copy, Debug, PartialEq, Eq)]
 pub enum Ty {
-    Void,
-    Int,
+    Void = 7,
+    Int = 2,
 }
 
 // An argument as far as a call asks about it.
-#[derive(Clone, Copy)]
+#[derive(Clone, Copy, Debug, PartialEq, Eq)]
 pub struct Valued {
     pub node: u16,
     pub line: u16,
@@ -15,7 +15,7 @@ pub struct Valued {
 
 // What the arguments of a call come to: how many, and the first of them that
 // does not have the type that is wanted.
-#[derive(Clone, Copy)]
+#[derive(Clone, Copy, Debug, PartialEq, Eq)]
 pub struct Arguments {
     pub count: usize,
     pub unfit: Option<Valued>,

@@ -1,20 +1,14 @@
-use Rattle.std.proofs.Common.{◌≡◌, sym, refl, ap, ◌∙◌, arith}
-use Rattle.std.proofs.lemmas.List.{length-set}
+use Rattle.std.proofs.Common.{◌≡◌, length, take, reverse, refl, ap, ◌∙◌, arith}
+use Rattle.std.proofs.lemmas.List.{length-take-le, take-append-le}
 use Rattle.checker.specs.Search.{newest_first}
-use Rattle.checker.specs.Scope.{built_ins}
 use Rattle.checker.proofs.Walking.{one_more}
 use Rattle.checker.proofs.declarations.enter_built_ins.Goals as goal
 
-pub loop-i-init : goal.loop-i-init
-loop-i-init c = (c.told-names, refl)
-
 pub loop-i-preserved : goal.loop-i-preserved
-loop-i-preserved c = (
-  length-set c.loop-i.names c.loop-i.i _ ∙ c.loop-i.invariant.0,
-  one_more c.loop-i.names c.loop-i.i c.loop-i.invariant.0 c.loop-i-test.true c.loop-i.invariant.1,
-)
+loop-i-preserved c = one_more c.loop-i.place-items c.loop-i.i (omega arith) c.loop-i.invariant
 
 pub returns : goal.returns
 returns c =
-    let all : c.loop-i.i ≡ 9 = omega arith in
-    ap (newest_first c.loop-i.names) (sym all) ∙ c.loop-i.invariant.1 ∙ ap built_ins all
+    let nine : length (take 9 c.args.names.now) ≡ 9 = length-take-le 9 c.args.names.now (omega arith) in
+    let all : 9 ≡ c.loop-i.i = omega arith in
+    ap reverse (take-append-le 9 c.loop-i.place-items _ (omega arith)) ∙ ap (newest_first c.loop-i.place-items) all ∙ c.loop-i.invariant ∙ rw (← all) refl

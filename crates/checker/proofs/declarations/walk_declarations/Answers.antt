@@ -1,18 +1,26 @@
-use Rattle.checker.proofs.Trees.{less_next}
+use Rattle.checker.proofs.Chains.{came, none_came}
 use Rattle.checker.proofs.Exprs.{broken}
-use Rattle.checker.proofs.Walking.{declarations_refused, declarations_on, declarations_done}
+use Rattle.checker.proofs.Walking.{declarations_begun, declarations_refused, declarations_on, declarations_done}
 use Rattle.checker.proofs.declarations.walk_declarations.Goals as goal
+
+pub loop-number-init : goal.loop-number-init
+loop-number-init c =
+    (tt, tt, rw (c.into_iter-number-iterator.ensures.into_iter_gives, c.chain-number-items.ensures.table, c.chain-number-items.ensures.first) (declarations_begun c.args.first c.requires.room c.told-names))
+
+pub invariant_of-place : goal.invariant_of-place
+invariant_of-place c =
+    record { is = (came c.args.script.linked c.loop-number.invariant.2.table c.in-Some.ensures.steps).is }
 
 pub returns-in_err-walk_function : goal.returns-in_err-walk_function
 returns-in_err-walk_function c =
-    declarations_refused c.requires.linked c.loop-at-test.true c.loop-at.invariant c.in_err-walk_function.ensures (broken _ _ c.from_residual.ensures.1)
+    declarations_refused c.args.script.linked (came c.args.script.linked c.loop-number.invariant.2.table c.in-Some.ensures.steps)
+    c.loop-number.invariant.2 c.in_err-walk_function.ensures (broken _ _ c.from_residual.ensures.1)
 
-pub loop-at-smaller : goal.loop-at-smaller
-loop-at-smaller c = less_next c.args.table.now c.requires.linked c.loop-at.at c.loop-at-test.true c.loop-at.invariant.within
-
-pub loop-at-preserved : goal.loop-at-preserved
-loop-at-preserved c =
-    declarations_on c.requires.linked c.loop-at-test.true c.loop-at.invariant c.in_ok-walk_function.ensures c.walk_function.array_long
+pub loop-number-preserved : goal.loop-number-preserved
+loop-number-preserved c =
+    let on = declarations_on c.args.script.linked (came c.args.script.linked c.loop-number.invariant.2.table c.in-Some.ensures.steps)
+    c.loop-number.invariant.2 c.in_ok-walk_function.ensures c.walk_function.array_long in
+    (tt, tt, on)
 
 pub returns : goal.returns
-returns c = declarations_done c.loop-at.invariant c.loop-at-test.false
+returns c = declarations_done c.loop-number.invariant.2 (none_came c.loop-number.invariant.2.table c.in-None.ensures.steps)

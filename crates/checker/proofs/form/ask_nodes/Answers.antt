@@ -1,7 +1,6 @@
-use Rattle.std.proofs.Common.{sym, arith}
+use Rattle.std.proofs.Common.{sym}
 use Rattle.checker.proofs.Forms.{formed_linked}
 use Rattle.checker.proofs.form.ask_nodes.Goals as goal
 
-pub ask_depth-requires : goal.ask_depth-requires
-ask_depth-requires c =
-    record { linked = formed_linked c.args.table.now (sym c.in_ok-ask_form.ensures); some = omega arith }
+pub invariant_of-script-clause-linked : goal.invariant_of-script-clause-linked
+invariant_of-script-clause-linked c = formed_linked c.args.table.nodes.now (sym c.in_ok-ask_form.ensures)

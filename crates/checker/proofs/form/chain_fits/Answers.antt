@@ -1,23 +1,15 @@
-use Rattle.std.proofs.Common.{sym, ◌∙◌}
-use Rattle.checker.proofs.Forms.{chain_none, chain_wrong, chain_cut, chain_on, chain_within, chain_less}
+use Rattle.std.proofs.Common.{◌≡◌, ap, length, rules, tests}
+use Rattle.std.specs.List.{list_all}
+use Rattle.std.proofs.lemmas.Iterator.Search.{all_from_yields_List}
+use Rattle.std.proofs.lemmas.Iterator.Consumers.{YieldsList-from_shown}
+use Rattle.checker.specs.Chain.{chain, ChainGives}
+use Rattle.checker.specs.Form.{of_class}
 use Rattle.checker.proofs.form.chain_fits.Goals as goal
 
-pub returns-then-not-is_of_class : goal.returns-then-not-is_of_class
-returns-then-not-is_of_class c =
-    sym (c.loop-at.invariant.1 ∙ chain_wrong c.args.table.now c.args.class c.loop-at.at c.loop-at-test.true c.loop-at.invariant.0 c.if-not-is_of_class.ensures)
-
-pub returns-then-not-link_fits : goal.returns-then-not-link_fits
-returns-then-not-link_fits c =
-    sym (c.loop-at.invariant.1 ∙ chain_cut c.args.table.now c.args.class c.loop-at.at c.loop-at-test.true c.loop-at.invariant.0 c.if-not-is_of_class.ensures c.if-not-link_fits.ensures)
-
-pub loop-at-smaller : goal.loop-at-smaller
-loop-at-smaller c = chain_less c.args.table.now c.args.class c.loop-at.at c.loop-at-test.true c.loop-at.invariant.0 c.if-not-link_fits.ensures
-
-pub loop-at-preserved : goal.loop-at-preserved
-loop-at-preserved c = (
-  chain_within c.args.table.now c.args.class c.loop-at.at c.loop-at-test.true c.loop-at.invariant.0 c.if-not-link_fits.ensures,
-  c.loop-at.invariant.1 ∙ chain_on c.args.table.now c.args.class c.loop-at.at c.loop-at-test.true c.loop-at.invariant.0 c.if-not-is_of_class.ensures c.if-not-link_fits.ensures,
-)
-
 pub returns : goal.returns
-returns c = sym (c.loop-at.invariant.1 ∙ chain_none c.args.table.now c.args.class c.loop-at.at c.loop-at-test.false)
+returns c =
+    let all : c.all.result ≡ list_all (λ p. of_class c.args.class p.1.kind) (chain c.new.result.table.now c.new.result.at) =
+    all_from_yields_List (λ p. of_class c.args.class p.1.kind) c.all.new.self _ c.all.result c.all.ensures.ran
+    (YieldsList-from_shown (λ s r t. ChainGives s.table.now s.at r t.table.now t.at) (λ p. p) (λ s. chain s.table.now s.at) (λ s t h. ap length h.first.0) (λ s x t h. h.first) c.new.result)
+    (λ x b q k. search (rules, tests)) in
+    rw (← c.new.ensures.table, ← c.new.ensures.first) all

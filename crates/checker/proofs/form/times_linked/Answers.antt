@@ -5,8 +5,8 @@ use Rattle.checker.proofs.form.times_linked.Goals as goal
 
 pub loop-node-preserved : goal.loop-node-preserved
 loop-node-preserved c =
-    let on = times_on c.args.table.now c.args.number c.loop-node.node-index c.loop-node-test.true in
-    let d = get_or c.args.table.now c.loop-node.node-index blank in
+    let on = times_on c.args.table.nodes.now c.args.number c.loop-node.node-index c.loop-node-test.true in
+    let d = get_or c.args.table.nodes.now c.loop-node.node-index blank in
     let a = hit_one c.args.number d.a in
     let b = hit_one c.args.number d.b in
     let e = hit_one c.args.number d.c in
@@ -14,4 +14,4 @@ loop-node-preserved c =
     (omega arith, omega arith)
 
 pub returns : goal.returns
-returns c = let none = times_all c.args.table.now c.args.number c.loop-node.node-index c.loop-node-test.false in omega arith
+returns c = let none = times_all c.args.table.nodes.now c.args.number c.loop-node.node-index c.loop-node-test.false in omega arith

@@ -1,27 +1,44 @@
-use Rattle.std.proofs.Common.{arith}
-use Rattle.checker.proofs.Trees.{less_b, less_next, within_b}
+use Rattle.std.proofs.Common.{ap, arith}
+use Rattle.checker.specs.Tree.{left}
+use Rattle.checker.proofs.Trees.{item_here, less_b}
+use Rattle.checker.proofs.Chains.{came, none_came}
 use Rattle.checker.proofs.Exprs.{broken}
-use Rattle.checker.proofs.Walking.{empty_statement, statements_refused, statements_on, statements_done}
+use Rattle.checker.proofs.Walking.{empty_statement, statements_begun, statements_refused, statements_on, statements_done}
 use Rattle.checker.proofs.statements.+walking.Goals as goal
 
 pub walk_statement-walk_statements-requires : goal.walk_statement-walk_statements-requires
 walk_statement-walk_statements-requires t c =
-    let less = less_b c.args.table.now c.requires.linked c.args.at (omega arith) c.requires.within.1 in
-    (omega arith, (c.requires.linked, (within_b c.args.table.now c.requires.linked c.args.at (omega arith) c.requires.within.1, c.requires.noted)))
+    let less = less_b c.args.place.script.linked (item_here c.args.place.script.nodes.now c.args.place.number c.args.place.node c.args.place.is) in
+    (omega arith, omega arith)
+
+pub walk_statement-returns-in-18 : goal.walk_statement-returns-in-18
+walk_statement-returns-in-18 t c = empty_statement c.args.names.now c.args.shelf.now.count c.args.place.number c.args.place.node c.in-18.is c.if-node-eq0.true
+
+pub walk_statements-loop-number-init : goal.walk_statements-loop-number-init
+walk_statements-loop-number-init t c =
+    (tt, tt, rw (c.into_iter-number-iterator.ensures.into_iter_gives, c.chain-number-items.ensures.table, c.chain-number-items.ensures.first) (statements_begun c.args.first))
+
+pub walk_statements-invariant_of-place : goal.walk_statements-invariant_of-place
+walk_statements-invariant_of-place t c =
+    record { is = (came c.args.script.linked c.loop-number.invariant.2.table c.in-Some.ensures.steps).is }
+
+pub walk_statements-walk_statement-requires : goal.walk_statements-walk_statement-requires
+walk_statements-walk_statement-requires t c =
+    let going = c.loop-number.invariant.2 in
+    let at = (came c.args.script.linked going.table c.in-Some.ensures.steps).at in
+    (omega (arith, ap (left c.args.script.nodes.now) at), omega arith)
 
 pub walk_statements-returns-in_err-walk_statement : goal.walk_statements-returns-in_err-walk_statement
 walk_statements-returns-in_err-walk_statement t c =
-    statements_refused c.requires.linked c.loop-at-test.true c.loop-at.invariant c.in_err-walk_statement.ensures (broken _ _ c.from_residual.ensures.1)
+    statements_refused c.args.script.linked (came c.args.script.linked c.loop-number.invariant.2.table c.in-Some.ensures.steps)
+    c.loop-number.invariant.2 c.in_err-walk_statement.ensures (broken _ _ c.from_residual.ensures.1)
 
-pub walk_statements-loop-at-smaller : goal.walk_statements-loop-at-smaller
-walk_statements-loop-at-smaller t c = less_next c.args.table.now c.requires.linked c.loop-at.at c.loop-at-test.true c.loop-at.invariant.within
-
-pub walk_statements-loop-at-preserved : goal.walk_statements-loop-at-preserved
-walk_statements-loop-at-preserved t c =
-    statements_on c.requires.linked c.loop-at-test.true c.loop-at.invariant c.in_ok-walk_statement.ensures
+pub walk_statements-loop-number-preserved : goal.walk_statements-loop-number-preserved
+walk_statements-loop-number-preserved t c =
+    let on = statements_on c.args.script.linked (came c.args.script.linked c.loop-number.invariant.2.table c.in-Some.ensures.steps)
+    c.loop-number.invariant.2 c.in_ok-walk_statement.ensures in
+    (tt, tt, on)
 
 pub walk_statements-returns : goal.walk_statements-returns
-walk_statements-returns t c = statements_done c.loop-at.invariant c.loop-at-test.false
-
-pub walk_statement-returns-in-18 : goal.walk_statement-returns-in-18
-walk_statement-returns-in-18 t c = empty_statement c.args.names.now c.args.shelf.now.count c.args.at c.in-18.is c.if-node-eq0.true
+walk_statements-returns t c =
+    statements_done c.loop-number.invariant.2 (none_came c.loop-number.invariant.2.table c.in-None.ensures.steps)
