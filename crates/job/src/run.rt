@@ -1,6 +1,6 @@
 // Runs a job: from the bytes of its sheet to the bytes that it prints.
 ghost use Rattle.std.specs.Prelude.{◌≡◌, ◌+◌, ◌≤◌, true, length, IfOk};
-ghost use Rattle.runner.specs.Calls.{seen};
+ghost use Rattle.runner.specs.Calls.{is_open, seen};
 ghost use Rattle.runner.specs.Run.{ran};
 ghost use Rattle.job.specs.Format.{sheet_of};
 ghost use Rattle.job.specs.Meant.{meant};
@@ -32,7 +32,7 @@ fn spend<M: Memory>(
     memory: &mut M,
     steps: u64,
 )
-    requires opened { session.old.«open» ≡ true }
+    requires opened { is_open session.old ≡ true }
     requires few { session.old.course.steps + steps ≤ 1_099_511_627_776 }
     ensures { seen session.new (M.Memory.cells memory.new) ≡ ran table.now notes.now steps (seen session.old (M.Memory.cells memory.old)) }
 {

@@ -3,11 +3,10 @@ use Rattle.std.specs.Prelude.{ℕ, zero, suc, ◌+◌, ◌-◌, Bool, true, fals
 use Rattle.checker.specs.declared.node.Node.{Node}
 use Rattle.checker.specs.declared.note.Note.{Note}
 use Rattle.runner.specs.declared.frame.Frame.{Frame}
-use Rattle.runner.specs.declared.frame.Signal.{Signal}
 use Rattle.runner.specs.declared.verdict.Verdict.{Verdict}
 use Rattle.runner.specs.declared.verdict.Verdict.TheVariants.{Running, Ended, Trapped}
 use Rattle.runner.specs.State.{Core, Scene, State}
-use Rattle.runner.specs.Rules.{Flow, stop, again, with_frames, with_world, begins, resumes, bottom}
+use Rattle.runner.specs.Rules.{Signal, Flow, stop, again, with_frames, with_world, begins, resumes, bottom}
 
 -- a scene with another core
 abbrev pub with_core : Core → Scene → Scene

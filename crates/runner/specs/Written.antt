@@ -1,6 +1,6 @@
 -- An output as the bytes that are written.
-use Rattle.std.specs.Prelude.{ℕ, List, take}
-use Rattle.runner.specs.declared.output.Output.{Output}
+use Rattle.std.specs.Prelude.{ℕ, List}
+use Rattle.arrayvec.specs.ArrayVec.{ArrayVec}
 
-abbrev pub written : Output → List ℕ
-written o = take o.len o.bytes
+abbrev pub written : ArrayVec ℕ → List ℕ
+written o = o.items

@@ -1,73 +1,96 @@
 // What begins at a node, by its kind.
-ghost use Rattle.std.specs.Prelude.{◌≡◌, true};
-ghost use Rattle.runner.specs.Newest.{held, room};
-ghost use Rattle.runner.specs.State.{core_of};
-ghost use Rattle.runner.specs.Rules.{Follows, begins, begin_node, begin_put};
+ghost use Rattle.std.specs.Prelude.{◌≡◌};
+ghost use Rattle.runner.specs.State.{Core, core_of};
+ghost use Rattle.runner.specs.Rules.{Follows, flow_of, begins, begin_at, begin_node, begin_put};
 
-use crate::frame::{Frame, Signal};
-use crate::machine::{Machine, no_rule, print, wait};
-use crate::print::print_newline;
-use crate::table::item_at;
+use crate::frame::Frame;
+use crate::machine::Machine;
+use crate::script::Script;
 use crate::trap::Trap;
+use crate::turn::{Signal, Turn};
 use crate::verdict::Verdict;
 use checker::node::Node;
 use checker::note::Note;
 use memories::Value;
+use numbers::newline;
+use std::ops::ControlFlow;
 
-// Begins the node `machine.next`; what it hands down at once, if it does.
-pub fn begin(machine: &mut Machine, table: &[Node], notes: &[Note]) -> Option<Signal>
-    ensures { Follows (core_of machine.old) (begins table.now notes.now (core_of machine.old)) result (core_of machine.new) }
+// Begins the node `machine.next`; what it hands down at once, unless the step is over.
+pub fn begin(machine: &mut Machine, script: Script) -> ControlFlow<(), Signal>
+    ensures { Follows (core_of machine.old) (begins script.entry.table.now script.entry.notes.now (core_of machine.old)) result (core_of machine.new) }
 {
     let number = machine.next;
-    if !machine.frames.has_room() {
+    if machine.frames.is_full() {
         machine.verdict = Verdict::Trapped {
             trap: Trap::TooDeep,
             place: number,
         };
-        return None;
+        return ControlFlow::Break(());
     }
-    let Some(node) = item_at(table, number) else {
-        return no_rule(machine, number);
-    };
-    let Some(note) = item_at(notes, number) else {
-        return no_rule(machine, number);
-    };
-    begin_node(machine, number, node, note)
+    machine.perform(begin_at(script, number))
 }
 
-fn begin_node(machine: &mut Machine, number: u16, node: Node, note: Note) -> Option<Signal>
-    requires { room 1024 (held machine.old.frames) ≡ true }
-    ensures { Follows (core_of machine.old) (begin_node number node note (core_of machine.old)) result (core_of machine.new) }
+fn begin_at(script: Script, number: u16) -> Turn
+    ensures { (s : Core) → flow_of result s ≡ begin_at script.entry.table.now script.entry.notes.now number s }
+{
+    let Some(node) = script.node(number) else {
+        return no_rule(number);
+    };
+    let Some(note) = script.note(number) else {
+        return no_rule(number);
+    };
+    begin_node(number, node, note)
+}
+
+fn begin_node(number: u16, node: Node, note: Note) -> Turn
+    ensures { (s : Core) → flow_of result s ≡ begin_node number node note s }
 {
     match node.kind {
-        10 if node.b == 0 => Some(Signal::Done),
-        10 => wait(
-            machine,
-            Frame::InBlock {
+        10 if node.b == 0 => Turn::Hands(None),
+        10 => Turn::Waits {
+            frame: Frame::InBlock {
                 block: number,
                 statement: node.b,
             },
-            node.b,
-        ),
-        18 if node.a == 0 => Some(Signal::Done),
-        18 => wait(machine, Frame::InStatement { statement: number }, node.a),
-        20 => Some(Signal::Gives(Value {
+            next: node.b,
+        },
+        18 if node.a == 0 => Turn::Hands(None),
+        18 => Turn::Waits {
+            frame: Frame::InStatement { statement: number },
+            next: node.a,
+        },
+        20 => Turn::Hands(Some(Value {
             ty: 2,
             word: node.value,
         })),
-        25 if note.declaration == 0 => begin_put(machine, number, node),
-        _ => no_rule(machine, number),
+        25 if note.declaration == 0 => begin_put(number, node),
+        _ => no_rule(number),
     }
 }
 
 // Begins a call of the built-in that the node names.
-fn begin_put(machine: &mut Machine, number: u16, node: Node) -> Option<Signal>
-    requires { room 1024 (held machine.old.frames) ≡ true }
-    ensures { Follows (core_of machine.old) (begin_put number node (core_of machine.old)) result (core_of machine.new) }
+fn begin_put(number: u16, node: Node) -> Turn
+    ensures { (s : Core) → flow_of result s ≡ begin_put number node s }
 {
     match node.value {
-        9 if node.a == 0 => print(machine, number, print_newline()),
-        2..=3 if node.a != 0 => wait(machine, Frame::InCall { call: number }, node.a),
-        _ => no_rule(machine, number),
+        9 if node.a == 0 => Turn::Prints {
+            call: number,
+            text: newline(),
+        },
+        2..=3 if node.a != 0 => Turn::Waits {
+            frame: Frame::InCall { call: number },
+            next: node.a,
+        },
+        _ => no_rule(number),
+    }
+}
+
+// No rule fits at the node `place`.
+pub fn no_rule(place: u16) -> Turn
+    ensures { result ≡ Turn.Traps Trap.NoRule place }
+{
+    Turn::Traps {
+        trap: Trap::NoRule,
+        place,
     }
 }

@@ -1,5 +1,4 @@
-// What is begun and not finished, and what is handed to it.
-use memories::Value;
+// What is begun and not finished.
 
 // What a node that is begun and not finished waits for.
 #[derive(Clone, Copy)]
@@ -12,9 +11,9 @@ pub enum Frame {
     InCall { call: u16 },
 }
 
-// What a node that is finished hands to the frame below.
-#[derive(Clone, Copy)]
-pub enum Signal {
-    Gives(Value),
-    Done,
+// What stands in the places of a stack that hold no frame.
+impl Default for Frame {
+    fn default() -> Frame {
+        Frame::InStatement { statement: 0 }
+    }
 }

@@ -3,6 +3,7 @@ ghost use Rattle.std.specs.Prelude.{◌≡◌, OnErr};
 ghost use Rattle.runner.specs.Calls.{Advanced};
 
 use crate::refusal::GrantRefusal;
+use crate::script::Script;
 use crate::session::Session;
 use crate::step::walk;
 use checker::node::Node;
@@ -10,7 +11,7 @@ use checker::note::Note;
 use memories::Memory;
 
 // The most steps of one grant.
-const GRANT: u32 = 1_000_000;
+pub const GRANT: u32 = 1_000_000;
 // The most steps of a session, from one open to the next.
 const STEPS: u64 = 1_099_511_627_776;
 
@@ -25,15 +26,16 @@ pub fn advance<M: Memory>(
     ensures does { Advanced table.now notes.now grant session.old (M.Memory.cells memory.old) result session.new (M.Memory.cells memory.new) }
     ensures refused { OnErr result (memory.new ≡ memory.old) }
 {
-    if !session.open {
+    let Some(opened) = &session.opened else {
         return Err(GrantRefusal::NotOpen);
-    }
+    };
+    let limit = opened.limit;
     if grant > GRANT {
         return Err(GrantRefusal::GrantTooLarge);
     }
     if session.course.steps > STEPS - grant as u64 {
         return Err(GrantRefusal::TooManySteps);
     }
-    let limit = session.limit;
-    Ok(walk(&mut session.course, table, notes, memory, limit, grant))
+    let script = Script { table, notes };
+    Ok(walk(&mut session.course, script, memory, limit, grant))
 }

@@ -1,8 +1,12 @@
 // Which values may be given to a script.
-ghost use Rattle.std.specs.Prelude.{◌≡◌};
-ghost use Rattle.runner.specs.Given.{lawful_float, lawful, all_lawful, acceptable};
+ghost use Rattle.std.specs.Prelude.{◌≡◌, Some, None, if◌then◌else◌};
+ghost use Rattle.runner.specs.Given.{lawful_float, lawful, all_lawful, acceptable, kept};
 
+use arrayvec::ArrayVec;
 use memories::Value;
+
+// The inputs that a script is opened with: at most 64.
+pub type Inputs = ArrayVec<Value, 64>;
 
 // There is one NaN.
 fn is_lawful_float(word: u32) -> bool
@@ -25,17 +29,15 @@ fn is_lawful(value: Value) -> bool
 fn all_lawful(values: &[Value]) -> bool
     ensures { result ≡ all_lawful values.now }
 {
-    for value in values {
-        if !is_lawful(*value) {
-            return false;
-        }
-    }
-    true
+    values.iter().all(|value| is_lawful(*value))
 }
 
-// Are there at most 64, each lawful?
-pub fn are_acceptable(inputs: &[Value]) -> bool
-    ensures { result ≡ acceptable inputs.now }
+// The inputs, if there are at most 64, each lawful.
+pub fn accepted(inputs: &[Value]) -> Option<Inputs>
+    ensures { result ≡ (if acceptable inputs.now then Some (kept inputs.now) else None) }
 {
-    inputs.len() <= 64 && all_lawful(inputs)
+    match Inputs::try_from(inputs) {
+        Ok(values) if all_lawful(inputs) => Some(values),
+        _ => None,
+    }
 }

@@ -4,21 +4,18 @@
 mod begin;
 mod frame;
 pub mod granting;
-mod inputs;
 mod lawful;
 mod machine;
 pub mod opening;
-mod output;
-mod print;
 pub mod refusal;
 mod resume;
+mod script;
 pub mod session;
-mod stack;
 mod step;
-mod table;
 #[cfg(test)]
 mod tests;
 pub mod trap;
+mod turn;
 pub mod verdict;
 
 pub use granting::advance;

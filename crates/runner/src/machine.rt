@@ -1,82 +1,102 @@
-// The machine that steps work on, and how a rule can end.
-ghost use Rattle.std.specs.Prelude.{◌≡◌, true};
-ghost use Rattle.runner.specs.Newest.{held, room};
-ghost use Rattle.numbers.specs.Shown.{shown};
-ghost use Rattle.runner.specs.State.{core_of};
-ghost use Rattle.runner.specs.Rules.{Follows, no_rule, awaits, put, bottom};
+// The machine that steps work on, and what each end of a rule does to it.
+ghost use Rattle.std.specs.Prelude.{◌≡◌, ◌≤◌, true, length};
 
-use crate::frame::{Frame, Signal};
-use crate::output::Output;
-use crate::stack::Stack;
+use crate::frame::Frame;
 use crate::trap::Trap;
+use crate::turn::{Signal, Turn};
 use crate::verdict::Verdict;
+use arrayvec::ArrayVec;
 use numbers::Text;
+use std::ops::ControlFlow;
 
 // What a rule may change, but the cells.
 #[derive(Drop)]
 pub struct Machine {
-    pub frames: Stack<Frame, 1024>,
+    pub frames: ArrayVec<Frame, 1024>,
     // the node to begin next; until another is known, the one begun last
     pub next: u16,
     pub verdict: Verdict,
-    pub output: Output,
+    pub output: ArrayVec<u8, 4096>,
     // how many inputs are taken
     pub taken: usize,
+    ghost fits: { length frames.items ≤ 1024 },
+}
+
+impl Default for Machine {
+    ghost use Rattle.runner.specs.State.{core_of};
+    ghost use Rattle.runner.specs.Rules.{resting};
+
+    ghost is_default = { λ m. core_of m ≡ resting };
+
+    fn default() -> Machine {
+        Machine {
+            frames: ArrayVec::new(),
+            next: 0,
+            verdict: Verdict::Running,
+            output: ArrayVec::new(),
+            taken: 0,
+        }
+    }
+}
+
+impl Machine {
+    ghost use Rattle.numbers.specs.Shown.{shown};
+    ghost use Rattle.runner.specs.Newest.{held, room};
+    ghost use Rattle.runner.specs.State.{core_of};
+    ghost use Rattle.runner.specs.Rules.{Follows, flow_of, put, bottom};
+
+    // Does what a rule ends with; what is handed down then, unless the step is over.
+    pub fn perform(&mut self, turn: Turn) -> ControlFlow<(), Signal>
+        requires { room 1024 (held self.old.frames) ≡ true }
+        ensures { Follows (core_of self.old) (flow_of turn (core_of self.old)) result (core_of self.new) }
+    {
+        match turn {
+            Turn::Hands(signal) => return ControlFlow::Continue(signal),
+            Turn::Waits { frame, next } => {
+                self.frames.push(frame);
+                self.next = next;
+            }
+            Turn::Prints { call, text } => return self.print(call, text),
+            Turn::Traps { trap, place } => self.verdict = Verdict::Trapped { trap, place },
+        }
+        ControlFlow::Break(())
+    }
+
+    // Prints `text` for the call at the node `place`.
+    fn print(&mut self, place: u16, text: Text) -> ControlFlow<(), Signal>
+        ensures { Follows (core_of self.old) (put place (shown text) (core_of self.old)) result (core_of self.new) }
+    {
+        match self.output.try_extend_from_slice(text.as_bytes()) {
+            Ok(()) => ControlFlow::Continue(None),
+            Err(_) => {
+                self.verdict = Verdict::Trapped {
+                    trap: Trap::OutputFull,
+                    place,
+                };
+                ControlFlow::Break(())
+            }
+        }
+    }
+
+    // No frame is left to hand `signal` to.
+    pub fn finish(&mut self, signal: Signal)
+        ensures { core_of self.new ≡ bottom signal (core_of self.old) }
+    {
+        self.verdict = match signal {
+            None => Verdict::Ended { value: 0 },
+            Some(_) => Verdict::Trapped {
+                trap: Trap::NoRule,
+                place: self.next,
+            },
+        };
+    }
 }
 
 // What a step may change, but the cells.
-#[derive(Drop)]
+#[derive(Default, Drop)]
 pub struct Course {
     pub machine: Machine,
     pub steps: u64,
     // the node begun last
     pub last: u16,
-}
-
-// No rule fits at the node `place`.
-pub fn no_rule(machine: &mut Machine, place: u16) -> Option<Signal>
-    ensures { Follows (core_of machine.old) (no_rule place (core_of machine.old)) result (core_of machine.new) }
-{
-    machine.verdict = Verdict::Trapped {
-        trap: Trap::NoRule,
-        place,
-    };
-    None
-}
-
-// Leaves `frame` waiting for the node `next`.
-pub fn wait(machine: &mut Machine, frame: Frame, next: u16) -> Option<Signal>
-    requires { room 1024 (held machine.old.frames) ≡ true }
-    ensures { Follows (core_of machine.old) (awaits frame next (core_of machine.old)) result (core_of machine.new) }
-{
-    let _ = machine.frames.push(frame);
-    machine.next = next;
-    None
-}
-
-// Prints `text` for the call at the node `place`.
-pub fn print(machine: &mut Machine, place: u16, text: Text) -> Option<Signal>
-    ensures { Follows (core_of machine.old) (put place (shown text) (core_of machine.old)) result (core_of machine.new) }
-{
-    if machine.output.append(text.as_bytes()) {
-        return Some(Signal::Done);
-    }
-    machine.verdict = Verdict::Trapped {
-        trap: Trap::OutputFull,
-        place,
-    };
-    None
-}
-
-// No frame is left to hand `signal` to.
-pub fn finish(machine: &mut Machine, signal: Signal)
-    ensures { core_of machine.new ≡ bottom signal (core_of machine.old) }
-{
-    machine.verdict = match signal {
-        Signal::Done => Verdict::Ended { value: 0 },
-        Signal::Gives(_) => Verdict::Trapped {
-            trap: Trap::NoRule,
-            place: machine.next,
-        },
-    };
 }

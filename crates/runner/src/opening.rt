@@ -1,12 +1,14 @@
 // Opens a session on a script.
-ghost use Rattle.std.specs.Prelude.{◌≡◌, ◌≤◌, length, take, drop, replicate, None, Err, OnErr};
+ghost use Rattle.std.specs.Prelude.{◌≡◌, ◌≤◌, length, take, drop, replicate, None, Ok, Err, OnErr, MatchResult};
+ghost use Rattle.std.specs.List.{find};
 ghost use Rattle.checker.specs.Notes.{cleared};
-ghost use Rattle.runner.specs.Calls.{main_body, limit_fits, AtStart, Opened};
+ghost use Rattle.runner.specs.Given.{given};
+ghost use Rattle.runner.specs.Calls.{asked, is_main, main_body, limit_fits, AtStart, Opened};
 
-use crate::lawful::are_acceptable;
+use crate::lawful::{Inputs, accepted};
+use crate::machine::Course;
 use crate::refusal::OpenRefusal;
-use crate::session::Session;
-use crate::verdict::Verdict;
+use crate::session::{OpenedWith, Session};
 use checker::node::Node;
 use checker::note::Note;
 use checker::shelf::{Name, Shelf};
@@ -22,16 +24,24 @@ fn limit_fits(limit: usize, size: usize) -> bool
     limit >= 1 && limit <= CELLS && limit <= size
 }
 
+// Is it the function of the name 10?
+fn is_main(node: Node) -> bool
+    ensures { result ≡ is_main node }
+{
+    node.kind == 2 && node.value == 10
+}
+
+fn first_main(table: &[Node]) -> Option<Node>
+    ensures { result ≡ find is_main table.now }
+{
+    table.iter().copied().find(|node| is_main(*node))
+}
+
 // The block of the first main, or 0.
 fn main_body(table: &[Node]) -> u16
     ensures { result ≡ main_body table.now }
 {
-    for node in table {
-        if node.kind == 2 && node.value == 10 {
-            return node.b;
-        }
-    }
-    0
+    first_main(table).map_or(0, |main| main.b)
 }
 
 // Clears the cells below the limit.
@@ -46,29 +56,22 @@ fn clear_below<M: Memory>(memory: &mut M, limit: usize)
 }
 
 // Sets the session to the start of its script.
-fn set_to_start(session: &mut Session, table: &[Node], inputs: &[Value], limit: usize)
-    requires { length inputs.now ≤ 64 }
-    ensures { AtStart (record { script = table.now; inputs = inputs.now; limit = limit }) session.new }
+fn set_to_start(session: &mut Session, table: &[Node], inputs: Inputs, limit: usize)
+    ensures { AtStart (record { script = table.now; inputs = given inputs; limit = limit }) session.new }
 {
-    session.course.machine.frames.clear();
+    session.course = Course::default();
     session.course.machine.next = main_body(table);
-    session.course.machine.verdict = Verdict::Running;
-    session.course.machine.output.clear();
-    session.course.machine.taken = 0;
-    session.course.steps = 0;
-    session.course.last = 0;
-    session.open = true;
-    session.limit = limit;
-    session.inputs.keep(inputs);
+    session.opened = Some(OpenedWith { limit, inputs });
 }
 
-// Takes the table's notes back and refuses.
-fn refuse(notes: &mut [Note], count: usize, refusal: OpenRefusal) -> Result<(), OpenRefusal>
-    ensures value { result ≡ Err refusal }
-    ensures notes { notes.new ≡ cleared count notes.old }
+// The questions after the check, for a memory of so many cells; the inputs, kept.
+fn ask(inputs: &[Value], limit: usize, size: usize) -> Result<Inputs, OpenRefusal>
+    ensures { MatchResult result (λ v. (Ok tt ≡ asked inputs.now limit size) × (given v ≡ inputs.now)) (λ e. Err e ≡ asked inputs.now limit size) }
 {
-    clear_notes(notes, count);
-    Err(refusal)
+    if !limit_fits(limit, size) {
+        return Err(OpenRefusal::CellLimit);
+    }
+    accepted(inputs).ok_or(OpenRefusal::Inputs)
 }
 
 // Checks the script, and sets the session and the cells below the limit to its start.
@@ -87,13 +90,15 @@ pub fn open<M: Memory>(
     ensures refused { OnErr result (memory.new ≡ memory.old) }
 {
     check_table(table, notes, shelf, names)?;
-    if !limit_fits(limit, memory.size()) {
-        return refuse(notes, table.len(), OpenRefusal::CellLimit);
+    match ask(inputs, limit, memory.size()) {
+        Ok(inputs) => {
+            clear_below(memory, limit);
+            set_to_start(session, table, inputs, limit);
+            Ok(())
+        }
+        Err(refusal) => {
+            clear_notes(notes, table.len());
+            Err(refusal)
+        }
     }
-    if !are_acceptable(inputs) {
-        return refuse(notes, table.len(), OpenRefusal::Inputs);
-    }
-    clear_below(memory, limit);
-    set_to_start(session, table, inputs, limit);
-    Ok(())
 }

@@ -42,8 +42,7 @@ impl OpenRefusal {
     {
         match self {
             OpenRefusal::Check(refusal) => refusal.node,
-            OpenRefusal::CellLimit => 0,
-            OpenRefusal::Inputs => 0,
+            OpenRefusal::CellLimit | OpenRefusal::Inputs => 0,
         }
     }
 
@@ -53,21 +52,20 @@ impl OpenRefusal {
     {
         match self {
             OpenRefusal::Check(refusal) => refusal.line,
-            OpenRefusal::CellLimit => 0,
-            OpenRefusal::Inputs => 0,
+            OpenRefusal::CellLimit | OpenRefusal::Inputs => 0,
         }
     }
 }
 
 // The questions that a grant is asked. Each has a number that hosts know it by.
-#[derive(Clone, Copy)]
+#[derive(Clone, Copy, Debug, Eq, PartialEq)]
 pub enum GrantRefusal {
     // Is the session open?
-    NotOpen,
+    NotOpen = 40,
     // Is the grant at most 1,000,000 steps?
-    GrantTooLarge,
+    GrantTooLarge = 41,
     // Are the steps taken and the grant at most 1,099,511,627,776?
-    TooManySteps,
+    TooManySteps = 42,
 }
 
 impl GrantRefusal {
@@ -75,10 +73,6 @@ impl GrantRefusal {
     pub fn number(self) -> u8
         ensures { result ≡ grant_number self }
     {
-        match self {
-            GrantRefusal::NotOpen => 40,
-            GrantRefusal::GrantTooLarge => 41,
-            GrantRefusal::TooManySteps => 42,
-        }
+        self as u8
     }
 }

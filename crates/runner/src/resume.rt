@@ -1,65 +1,59 @@
 // What a frame does with what it is handed.
-ghost use Rattle.std.specs.Prelude.{◌≡◌, true};
-ghost use Rattle.runner.specs.Newest.{held, room};
-ghost use Rattle.runner.specs.State.{core_of};
-ghost use Rattle.runner.specs.Rules.{Follows, resumes, in_block, in_call};
+ghost use Rattle.std.specs.Prelude.{◌≡◌};
+ghost use Rattle.runner.specs.State.{Core};
+ghost use Rattle.runner.specs.Rules.{flow_of, resumes, in_block, in_call};
 
-use crate::frame::{Frame, Signal};
-use crate::machine::{Machine, no_rule, print, wait};
-use crate::print::{print_int, print_int_line};
-use crate::table::item_at;
-use checker::node::Node;
+use crate::begin::no_rule;
+use crate::frame::Frame;
+use crate::script::Script;
+use crate::turn::{Signal, Turn};
+use numbers::{Ending, print_int};
 
-// Hands `signal` to `frame`, which is taken off; what it hands down in turn, if it does.
-pub fn resume(machine: &mut Machine, table: &[Node], signal: Signal, frame: Frame) -> Option<Signal>
-    requires { room 1024 (held machine.old.frames) ≡ true }
-    ensures { Follows (core_of machine.old) (resumes table.now signal frame (core_of machine.old)) result (core_of machine.new) }
+// Hands `signal` to `frame`, which is taken off.
+pub fn resume(script: Script, signal: Signal, frame: Frame) -> Turn
+    ensures { (s : Core) → flow_of result s ≡ resumes script.entry.table.now signal frame s }
 {
     match frame {
-        Frame::InBlock { block, statement } => in_block(machine, table, signal, block, statement),
-        Frame::InStatement { statement: _ } => Some(Signal::Done),
-        Frame::InCall { call } => in_call(machine, table, signal, call),
+        Frame::InBlock { block, statement } => in_block(script, signal, block, statement),
+        Frame::InStatement { statement: _ } => Turn::Hands(None),
+        Frame::InCall { call } => in_call(script, signal, call),
     }
 }
 
-fn in_block(
-    machine: &mut Machine,
-    table: &[Node],
-    signal: Signal,
-    block: u16,
-    statement: u16,
-) -> Option<Signal>
-    requires { room 1024 (held machine.old.frames) ≡ true }
-    ensures { Follows (core_of machine.old) (in_block table.now signal block statement (core_of machine.old)) result (core_of machine.new) }
+fn in_block(script: Script, signal: Signal, block: u16, statement: u16) -> Turn
+    ensures { (s : Core) → flow_of result s ≡ in_block script.entry.table.now signal block statement s }
 {
-    let Signal::Done = signal else {
-        return no_rule(machine, block);
+    let None = signal else {
+        return no_rule(block);
     };
-    let Some(node) = item_at(table, statement) else {
-        return no_rule(machine, block);
+    let Some(node) = script.node(statement) else {
+        return no_rule(block);
     };
     if node.next == 0 {
-        return Some(Signal::Done);
+        return Turn::Hands(None);
     }
-    let next = Frame::InBlock {
-        block,
-        statement: node.next,
-    };
-    wait(machine, next, node.next)
+    Turn::Waits {
+        frame: Frame::InBlock {
+            block,
+            statement: node.next,
+        },
+        next: node.next,
+    }
 }
 
-fn in_call(machine: &mut Machine, table: &[Node], signal: Signal, call: u16) -> Option<Signal>
-    ensures { Follows (core_of machine.old) (in_call table.now signal call (core_of machine.old)) result (core_of machine.new) }
+fn in_call(script: Script, signal: Signal, call: u16) -> Turn
+    ensures { (s : Core) → flow_of result s ≡ in_call script.entry.table.now signal call s }
 {
-    let Signal::Gives(value) = signal else {
-        return no_rule(machine, call);
+    let Some(value) = signal else {
+        return no_rule(call);
     };
-    let Some(node) = item_at(table, call) else {
-        return no_rule(machine, call);
+    let Some(node) = script.node(call) else {
+        return no_rule(call);
     };
-    match node.value {
-        2 if value.ty == 2 => print(machine, call, print_int(value.word)),
-        3 if value.ty == 2 => print(machine, call, print_int_line(value.word)),
-        _ => no_rule(machine, call),
-    }
+    let text = match node.value {
+        2 if value.ty == 2 => print_int(value.word, Ending::Nothing),
+        3 if value.ty == 2 => print_int(value.word, Ending::Newline),
+        _ => return no_rule(call),
+    };
+    Turn::Prints { call, text }
 }

@@ -4,20 +4,23 @@ ghost use Rattle.runner.specs.Books.{place_of};
 ghost use Rattle.runner.specs.Calls.{Fresh};
 ghost use Rattle.runner.specs.Written.{written};
 
-use crate::frame::Frame;
-use crate::inputs::Inputs;
-use crate::machine::{Course, Machine};
-use crate::output::Output;
-use crate::stack::Stack;
+use crate::lawful::Inputs;
+use crate::machine::Course;
 use crate::verdict::Verdict;
 
+// What a session was opened with.
 #[derive(Drop)]
+pub struct OpenedWith {
+    // the script has the cells below this one
+    pub limit: usize,
+    pub inputs: Inputs,
+}
+
+#[derive(Default, Drop)]
 pub struct Session {
     pub(crate) course: Course,
-    pub(crate) open: bool,
-    // the script has the cells below this one
-    pub(crate) limit: usize,
-    pub(crate) inputs: Inputs,
+    // nothing for a session that is not open
+    pub(crate) opened: Option<OpenedWith>,
 }
 
 impl Session {
@@ -25,22 +28,7 @@ impl Session {
     pub fn new() -> Session
         ensures { Fresh result }
     {
-        Session {
-            course: Course {
-                machine: Machine {
-                    frames: Stack::new(Frame::InStatement { statement: 0 }),
-                    next: 0,
-                    verdict: Verdict::Running,
-                    output: Output::new(),
-                    taken: 0,
-                },
-                steps: 0,
-                last: 0,
-            },
-            open: false,
-            limit: 0,
-            inputs: Inputs::new(),
-        }
+        Session::default()
     }
 
     // The steps taken since the session was opened.
@@ -70,6 +58,6 @@ impl Session {
     pub fn output(&self) -> &[u8]
         ensures { result.now ≡ written self.now.course.machine.output }
     {
-        self.course.machine.output.as_bytes()
+        self.course.machine.output.as_slice()
     }
 }

@@ -2,14 +2,15 @@
 ghost use Rattle.std.specs.Prelude.{◌≡◌};
 ghost use Rattle.runner.specs.Verdicts.{trap_number};
 
-#[derive(Clone, Copy)]
+// Each has the number that hosts know it by.
+#[derive(Clone, Copy, Debug, Eq, PartialEq)]
 pub enum Trap {
     // a text does not fit the output
-    OutputFull,
+    OutputFull = 9,
     // as many nodes as there may be are begun and unfinished
-    TooDeep,
+    TooDeep = 10,
     // no rule fits the node at hand
-    NoRule,
+    NoRule = 11,
 }
 
 impl Trap {
@@ -17,10 +18,6 @@ impl Trap {
     pub fn number(self) -> u8
         ensures { result ≡ trap_number self }
     {
-        match self {
-            Trap::OutputFull => 9,
-            Trap::TooDeep => 10,
-            Trap::NoRule => 11,
-        }
+        self as u8
     }
 }

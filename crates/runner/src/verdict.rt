@@ -4,8 +4,9 @@ ghost use Rattle.runner.specs.Verdicts.{verdict_number, verdict_value};
 
 use crate::trap::Trap;
 
-#[derive(Clone, Copy)]
+#[derive(Clone, Copy, Debug, Default, Eq, PartialEq)]
 pub enum Verdict {
+    #[default]
     Running,
     // the end, with main's answer
     Ended { value: i32 },

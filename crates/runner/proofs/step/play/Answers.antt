@@ -1,20 +1,15 @@
-use Rattle.std.proofs.Common.{take, refl, ◌∙◌}
+use Rattle.std.proofs.Common.{take, ◌∙◌}
 use Rattle.runner.specs.State.{core_of, scene}
 use Rattle.runner.proofs.Settled.{played-stop, played-again}
 use Rattle.runner.proofs.step.play.Goals as goal
 
-pub returns-in-Some : goal.returns-in-Some
-returns-in-Some g c =
+pub returns-in-Continue-clause-after : goal.returns-in-Continue-clause-after
+returns-in-Continue-clause-after g c =
     let s = scene c.args.machine.now (take c.args.limit (g.M.Memory.cells c.args.memory.now)) in
-    record {
-      after = c.settle.ensures.after ∙ played-again c.args.table.now s (core_of c.begin.new.machine) c.args.notes.now c.in-Some.signal c.in-Some.ensures;
-      beyond = c.settle.ensures.beyond;
-    }
+    c.settle.ensures.after
+    ∙ played-again c.args.script.table.now s (core_of c.begin.new.machine) c.args.script.notes.now c.in-Continue.signal c.in-Continue.ensures
 
-pub returns-in_default : goal.returns-in_default
-returns-in_default g c =
+pub returns-in_default-clause-after : goal.returns-in_default-clause-after
+returns-in_default-clause-after g c =
     let s = scene c.args.machine.now (take c.args.limit (g.M.Memory.cells c.args.memory.now)) in
-    record {
-      after = played-stop c.args.table.now s (core_of c.begin.new.machine) c.args.notes.now c.in_default.ensures;
-      beyond = refl;
-    }
+    played-stop c.args.script.table.now s (core_of c.begin.new.machine) c.args.script.notes.now c.in_default.ensures

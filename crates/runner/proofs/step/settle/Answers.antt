@@ -1,41 +1,37 @@
-use Rattle.std.proofs.Common.{take, sym, refl, ◌∙◌, arith}
+use Rattle.std.proofs.Common.{List, reverse, take, sym, ap, ◌∙◌}
+use Rattle.std.proofs.lemmas.Bool.{false≢true}
+use Rattle.arrayvec.specs.ArrayVec.{ArrayVec}
+use Rattle.runner.specs.declared.frame.Frame.{Frame}
 use Rattle.runner.specs.Newest.{held}
+use Rattle.runner.specs.Rules.{with_frames, bottom}
 use Rattle.runner.specs.State.{core_of, scene}
-use Rattle.runner.proofs.Held.{length-held}
-use Rattle.runner.proofs.Settled.{older_room, settles_none, settles-stop, settles-again}
+use Rattle.runner.proofs.Held.{popped_room, popped, emptied}
+use Rattle.runner.proofs.Settled.{settles_none, settles-stop, settles-again}
 use Rattle.runner.proofs.step.settle.Goals as goal
 
-pub resume-requires : goal.resume-requires
-resume-requires g c =
-    let frames = c.loop-frame.machine.frames in
-    let w = frames.whole in
-    let f = frames.fits in
-    let l = length-held frames.items frames.len (omega arith) in
-    older_room 1024 (held frames) (held c.pop.new.self) c.in-Some.frame (omega arith) c.pop.ensures.after c.in-Some.ensures.value
+pub perform-requires : goal.perform-requires
+perform-requires g c = popped_room _ _ c.in-Some.frame c.loop-frame.machine.fits c.in-Some.ensures.items
 
 pub loop-frame-preserved : goal.loop-frame-preserved
 loop-frame-preserved g c =
     let s = scene c.loop-frame.machine (take c.args.limit (g.M.Memory.cells c.args.memory.now)) in
     c.loop-frame.invariant
-    ∙ settles-again c.args.table.now s c.loop-frame.signal s.core.frames (held c.pop.new.self) c.in-Some.frame c.in-Some-resume.more
-    (core_of c.resume.new.machine) c.pop.ensures.after c.in-Some.ensures.value c.in-Some-resume.ensures
+    ∙ settles-again c.args.script.table.now s c.loop-frame.signal _ _ c.in-Some.frame c.in-Continue.more (core_of c.perform.new.self) _
+    (popped _ _ c.in-Some.frame c.in-Some.ensures.items) (sym (c.resume.ensures _)) c.in-Continue.ensures
 
-pub returns-in-None : goal.returns-in-None
-returns-in-None g c =
+pub returns-in-Break-clause-after : goal.returns-in-Break-clause-after
+returns-in-Break-clause-after g c =
     let s = scene c.loop-frame.machine (take c.args.limit (g.M.Memory.cells c.args.memory.now)) in
-    record {
-      after = sym (c.loop-frame.invariant
-          ∙ settles-stop c.args.table.now s c.loop-frame.signal s.core.frames (held c.pop.new.self) c.in-Some.frame
-          (core_of c.resume.new.machine) c.pop.ensures.after c.in-Some.ensures.value c.in-None.ensures);
-      beyond = refl;
-    }
+    sym (c.loop-frame.invariant
+    ∙ settles-stop c.args.script.table.now s c.loop-frame.signal _ _ c.in-Some.frame (core_of c.perform.new.self) _
+    (popped _ _ c.in-Some.frame c.in-Some.ensures.items) (sym (c.resume.ensures _)) c.in-Break.ensures)
 
-pub returns-in_default : goal.returns-in_default
-returns-in_default g c =
+pub returns-clause-after : goal.returns-clause-after
+returns-clause-after g c =
     let s = scene c.loop-frame.machine (take c.args.limit (g.M.Memory.cells c.args.memory.now)) in
-    record {
-      after = sym (c.loop-frame.invariant
-          ∙ settles_none c.args.table.now s c.loop-frame.signal s.core.frames (held c.pop.new.self)
-          (core_of c.finish.new.machine) c.pop.ensures.after c.in_default.ensures.value c.finish.ensures);
-      beyond = refl;
-    }
+    let none = emptied c.loop-frame.machine.frames.items (λ l. false≢true (c.in_default.ensures.variant.1 l)) in
+    sym (c.loop-frame.invariant
+    ∙ settles_none c.args.script.table.now s c.loop-frame.signal _ (core_of c.finish.new.self) (ap reverse none)
+    (c.finish.ensures
+    ∙ ap (λ (fs : ArrayVec Frame). bottom c.loop-frame.signal (with_frames (held fs) s.core)) c.in_default.ensures.empty
+    ∙ ap (λ (fs : List Frame). bottom c.loop-frame.signal (with_frames (reverse fs) s.core)) none))

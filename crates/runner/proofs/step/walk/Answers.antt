@@ -7,12 +7,12 @@ use Rattle.runner.proofs.step.walk.Goals as goal
 pub loop-count-init : goal.loop-count-init
 loop-count-init g c =
     let s = view c.args.course.now (take c.args.limit (g.M.Memory.cells c.args.memory.now)) in
-    (sym (ran_none c.args.table.now c.args.notes.now s), omega arith, refl)
+    (sym (ran_none c.args.script.table.now c.args.script.notes.now s), omega arith, refl)
 
 pub loop-count-preserved : goal.loop-count-preserved
 loop-count-preserved g c =
-    let t = c.args.table.now in
-    let notes = c.args.notes.now in
+    let t = c.args.script.table.now in
+    let notes = c.args.script.notes.now in
     let s = view c.args.course.now (take c.args.limit (g.M.Memory.cells c.args.memory.now)) in
     let at = view c.loop-count.course (take c.args.limit (g.M.Memory.cells c.loop-count.memory)) in
     let more = ap (λ (x : State). x.steps) c.step.ensures.after ∙ counts t notes at (sym c.if-not-step.ensures.says) in (
@@ -23,8 +23,8 @@ loop-count-preserved g c =
 
 pub returns-then-not-step : goal.returns-then-not-step
 returns-then-not-step g c =
-    let t = c.args.table.now in
-    let notes = c.args.notes.now in
+    let t = c.args.script.table.now in
+    let notes = c.args.script.notes.now in
     let s = view c.args.course.now (take c.args.limit (g.M.Memory.cells c.args.memory.now)) in
     let at = view c.loop-count.course (take c.args.limit (g.M.Memory.cells c.loop-count.memory)) in
     let over = sym c.if-not-step.ensures.says in

@@ -6,6 +6,6 @@ use Rattle.runner.proofs.step.walk.Given as goal
 abbrev pub invariant-loop-count : goal.invariant-loop-count
 invariant-loop-count g l =
     (view l.course (take l.limit (g.M.Memory.cells l.memory))
-    ≡ ran l.table l.notes l.count (view l.initial.course (take l.limit (g.M.Memory.cells l.initial.memory))))
+    ≡ ran l.script.table.now l.script.notes.now l.count (view l.initial.course (take l.limit (g.M.Memory.cells l.initial.memory))))
     × (l.course.steps ≡ l.initial.course.steps + l.count)
     × (drop l.limit (g.M.Memory.cells l.memory) ≡ drop l.limit (g.M.Memory.cells l.initial.memory))

@@ -1,0 +1,34 @@
+// A script: nodes and notes by their number, which counts from 1.
+ghost use Rattle.std.specs.Prelude.{◌≡◌};
+ghost use Rattle.runner.specs.Rules.{item_at};
+
+use checker::node::Node;
+use checker::note::Note;
+
+// A table and the notes on it.
+#[derive(Clone, Copy)]
+pub struct Script<'a> {
+    pub table: &'a [Node],
+    pub notes: &'a [Note],
+}
+
+impl Script<'_> {
+    pub fn node(self, number: u16) -> Option<Node>
+        ensures { result ≡ item_at self.entry.table.now number }
+    {
+        item_at(self.table, number)
+    }
+
+    pub fn note(self, number: u16) -> Option<Note>
+        ensures { result ≡ item_at self.entry.notes.now number }
+    {
+        item_at(self.notes, number)
+    }
+}
+
+fn item_at<T: Copy>(items: &[T], number: u16) -> Option<T>
+    ensures { result ≡ item_at items.now number }
+{
+    let place = (number as usize).checked_sub(1)?;
+    items.get(place).copied()
+}
