@@ -1,4 +1,3 @@
-pub mod Held
 pub mod Pieces
 pub mod Digits
 pub mod Fields

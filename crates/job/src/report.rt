@@ -5,29 +5,24 @@ ghost use Rattle.job.specs.Printed.{verdict_number, headline, printed};
 use std::alloc::{AllocError, Global};
 
 // How a job stands. Each verdict has a number that hosts know it by.
-#[derive(Clone, Copy)]
+#[derive(Clone, Copy, Debug, PartialEq, Eq)]
 pub enum Verdict {
-    Running,
-    Ended,
-    Trapped,
-    Refused,
+    Running = 0,
+    Ended = 1,
+    Trapped = 2,
+    Refused = 3,
 }
 
 impl Verdict {
     pub fn number(&self) -> u8
         ensures { result ≡ verdict_number self.now }
     {
-        match *self {
-            Verdict::Running => 0,
-            Verdict::Ended => 1,
-            Verdict::Trapped => 2,
-            Verdict::Refused => 3,
-        }
+        *self as u8
     }
 }
 
 // The verdict with its value, the node and the line that it speaks of, and the steps taken.
-#[derive(Clone, Copy)]
+#[derive(Clone, Copy, Debug, PartialEq, Eq)]
 pub struct Headline {
     pub verdict: Verdict,
     pub value: i32,

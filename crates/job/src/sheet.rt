@@ -7,7 +7,7 @@ ghost use Rattle.job.specs.Meant.{meant, carried, meaning};
 ghost use Rattle.job.specs.Writing.{ReadsBack};
 
 use crate::cut::{cut_first, fields};
-use crate::rows::Rows;
+use arrayvec::ArrayVec;
 use checker::node::Node;
 use memories::Value;
 
@@ -29,33 +29,28 @@ const NODE_MOST: [u64; 8] = [
 ];
 
 // The questions that are asked of a sheet. Each has a number that hosts know it by.
-#[derive(Clone, Copy)]
+#[derive(Clone, Copy, Debug, PartialEq, Eq)]
 pub enum SheetQuestion {
     // Is the first line a C line with cells and steps that a job may have?
-    FirstLine,
+    FirstLine = 21,
     // Is each later line well formed and in turn?
-    LineForm,
+    LineForm = 22,
     // Does each field fit its width?
-    FieldWidth,
+    FieldWidth = 23,
     // Are there at most 64 I lines and 4,096 N lines?
-    LineCount,
+    LineCount = 24,
 }
 
 impl SheetQuestion {
     pub fn number(&self) -> u16
         ensures { result ≡ question_number self.now }
     {
-        match *self {
-            SheetQuestion::FirstLine => 21,
-            SheetQuestion::LineForm => 22,
-            SheetQuestion::FieldWidth => 23,
-            SheetQuestion::LineCount => 24,
-        }
+        *self as u16
     }
 }
 
 // Why a sheet is refused, and the number of its line, from 1.
-#[derive(Clone, Copy)]
+#[derive(Clone, Copy, Debug, PartialEq, Eq)]
 pub struct SheetRefusal {
     pub question: SheetQuestion,
     pub line: u32,
@@ -65,8 +60,8 @@ pub struct SheetRefusal {
 pub struct Sheet {
     pub cells: u16,
     pub steps: u64,
-    inputs: Rows<Value, 64>,
-    table: Rows<Node, 4096>,
+    inputs: ArrayVec<Value, 64>,
+    table: ArrayVec<Node, 4096>,
 }
 
 // Is no number above the largest of its width?
@@ -86,22 +81,11 @@ impl Sheet {
     fn new(cells: u16, steps: u64) -> Sheet
         ensures { meant result ≡ opened cells steps }
     {
-        let value = Value { ty: 0, word: 0 };
-        let node = Node {
-            kind: 0,
-            ty: 0,
-            value: 0,
-            a: 0,
-            b: 0,
-            c: 0,
-            next: 0,
-            line: 0,
-        };
         Sheet {
             cells,
             steps,
-            inputs: Rows::new(value),
-            table: Rows::new(node),
+            inputs: ArrayVec::new(),
+            table: ArrayVec::new(),
         }
     }
 
@@ -125,10 +109,9 @@ impl Sheet {
             ty: numbers[0] as u8,
             word: numbers[1] as u32,
         };
-        if !self.inputs.push(value) {
-            return Err(SheetQuestion::LineCount);
-        }
-        Ok(())
+        self.inputs
+            .try_push(value)
+            .map_err(|_| SheetQuestion::LineCount)
     }
 
     fn add_node(&mut self, numbers: [u64; 8]) -> Result<(), SheetQuestion>
@@ -147,10 +130,9 @@ impl Sheet {
             next: numbers[6] as u16,
             line: numbers[7] as u16,
         };
-        if !self.table.push(node) {
-            return Err(SheetQuestion::LineCount);
-        }
-        Ok(())
+        self.table
+            .try_push(node)
+            .map_err(|_| SheetQuestion::LineCount)
     }
 
     fn add_line(&mut self, line: &[u8]) -> Result<(), SheetQuestion>
