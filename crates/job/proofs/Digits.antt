@@ -20,13 +20,13 @@ all_digits piece = same_from_clauses (list_all is_ascii_digit) all_ascii_digits 
 
 -- what parse answers at few digits
 pub parsed : {E : Type 0} (piece : List ℕ) (r : Result ℕ E) → length piece ≤ 13 → list_all is_ascii_digit piece ≡ true →
-      OkIff r ((0 < length piece) × (digits_value 10 piece < 2 ^ 64)) (digits_value 10 piece) → result_ok r ≡ number_of piece
+    OkIff r ((0 < length piece) × (digits_value 10 piece < 2 ^ 64)) (digits_value 10 piece) → result_ok r ≡ number_of piece
 parsed piece (Ok v) few digits h = rw (le-leb 1 (length piece) h.0.0, le-leb (length piece) 13 few, ← all_digits piece, digits) (ap Some h.1)
 parsed piece (Err e) few digits h =
-      let small = digits_value_short numerals piece 13 (sym (all_digits piece) ∙ digits) few in
-      let some : 0 < length piece → ⊥ = λ k. h (k, omega (arith, small)) in
-      let none : length piece < 1 = omega (arith, some) in
-      rw (lt-leb 1 (length piece) none)
+    let small = digits_value_short numerals piece 13 (sym (all_digits piece) ∙ digits) few in
+    let some : 0 < length piece → ⊥ = λ k. h (k, omega (arith, small)) in
+    let none : length piece < 1 = omega (arith, some) in
+    rw (lt-leb 1 (length piece) none)
 
 pub in_range : (byte : ℕ) → is_ascii_digit byte ≡ true → IsInRange 48 57 byte
 in_range byte e = let p = and_parts (leb 48 byte) (leb byte 57) e in (leb-true 48 byte p.0, leb-true byte 57 p.1)

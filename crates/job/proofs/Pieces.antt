@@ -7,13 +7,12 @@ use Rattle.std.proofs.lemmas.List.Sums.{fails_before_first}
 use Rattle.job.specs.Lines.{cut}
 
 module _ (mark : ℕ) (text : List ℕ) where
-
   pub cut_found : (i : ℕ) → Some i ≡ position (λ byte. eqb byte mark) text → cut mark text ≡ take i text ∷ cut mark (drop (i + 1) text)
   cut_found i e = elim (cases_Bool (ltb (position_or_len (λ byte. eqb byte mark) text) (length text))) [
     | inl h ↦
-      let at = rw h at e in
-      let same : i ≡ position_or_len (λ byte. eqb byte mark) text = cc in
-      rw same (slice_split_first (λ byte. eqb byte mark) text 0 (ltb-true _ _ h))
+        let at = rw h at e in
+        let same : i ≡ position_or_len (λ byte. eqb byte mark) text = cc in
+        rw same (slice_split_first (λ byte. eqb byte mark) text 0 (ltb-true _ _ h))
     | inr h ↦ let at = rw h at e in cc
   ]
 
@@ -21,8 +20,8 @@ module _ (mark : ℕ) (text : List ℕ) where
   cut_unfound e = elim (cases_Bool (ltb (position_or_len (λ byte. eqb byte mark) text) (length text))) [
     | inl h ↦ let at = rw h at e in cc
     | inr h ↦
-      let past = ltb-false _ _ h in
-      slice_split_none (λ byte. eqb byte mark) text (λ k d l. fails_before_first (λ byte. eqb byte mark) text k d (omega arith))
+        let past = ltb-false _ _ h in
+        slice_split_none (λ byte. eqb byte mark) text (λ k d l. fails_before_first (λ byte. eqb byte mark) text k d (omega arith))
   ]
 
 first_piece : (pieces : List (List ℕ)) → 0 < length pieces → (p : List ℕ) × ((ps : List (List ℕ)) × (pieces ≡ p ∷ ps))

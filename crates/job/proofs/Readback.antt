@@ -13,11 +13,12 @@ use Rattle.std.proofs.lemmas.List.{length_push}
 use Rattle.job.specs.Lines.{cut, number_of, numbers_of, after_letter, fields_of}
 use Rattle.job.specs.Format.{SheetMeaning, if_some, is_empty, none_above, usable, input_largest, node_largest, opened, with_input, with_node}
 use Rattle.job.specs.declared.sheet.SheetQuestion.TheVariants.{LineForm}
+use Rattle.job.specs.declared.sheet.SheetQuestion.{SheetQuestion}
 use Rattle.job.specs.declared.sheet.SheetRefusal.{SheetRefusal}
-use Rattle.job.specs.Format.{first_line, input_line, node_line, later_line, later_lines, sheet_of}
+use Rattle.job.specs.Format.{and_then, first_line, input_line, node_line, later_line, later_lines, next_line, sheet_lines, sheet_of}
 use Rattle.job.specs.Writing.{field_texts, line_before, input_fields, node_fields, inputs_text, nodes_text, sheet_text, Writable, ReadsBack}
 use Rattle.job.proofs.Digits.{numerals, in_range}
-use Rattle.job.proofs.Sheets.{line_good, first_good}
+use Rattle.job.proofs.Sheets.{lines_on, sheet_on}
 
 -- no byte is the mark
 abbrev Lacks : ℕ → List ℕ → Type 0
@@ -92,6 +93,13 @@ short_from (most ∷ mosts) (n ∷ ns) l h e =
 line_pieces : (letter : ℕ) (ns rest : List ℕ) → (letter ≡ 10 → ⊥) → Short ns → cut 10 (line_before letter ns rest) ≡ (letter ∷ field_texts ns) ∷ cut 10 rest
 line_pieces letter ns rest l h = cut_lacks 10 (letter ∷ field_texts ns) rest (lacks_one 10 letter (field_texts ns) l (fields_lack 10 ns (lit< tt) h))
 
+-- a good line leads on to the lines after it
+line_good : (line rest : List ℕ) (s t : SheetMeaning) → Ok t ≡ later_line s line → later_lines s (line ∷ cut 10 rest) ≡ later_lines t (cut 10 rest)
+line_good line rest s t f = lines_on line rest s ∙ ap (λ (r : Result SheetMeaning SheetQuestion). and_then (next_line s) r (λ u. later_lines u (cut 10 rest))) (sym f)
+
+first_good : (line rest : List ℕ) (s : SheetMeaning) → Ok s ≡ first_line line → sheet_lines (line ∷ cut 10 rest) ≡ later_lines s (cut 10 rest)
+first_good line rest s f = sheet_on line rest ∙ ap (λ (r : Result SheetMeaning SheetQuestion). and_then 1 r (λ u. later_lines u (cut 10 rest))) (sym f)
+
 module _ (s : SheetMeaning) (n : Node) (fit : none_above node_largest (node_fields n) ≡ true) where
   node_short : Short (node_fields n)
   node_short =
@@ -116,9 +124,8 @@ nodes_back : (s : SheetMeaning) (ns : List Node) → AllByRecursion (λ n. none_
 nodes_back s [] fit h = ap (λ (t : List Node). Ok (record { cells = s.cells; steps = s.steps; inputs = s.inputs; table = t })) (sym (append-nil s.table))
 nodes_back s (n ∷ ns) fit h =
     let more = length_push s.table n in
-    line_good (nodes_text (n ∷ ns)) (78 ∷ field_texts (node_fields n)) (nodes_text ns)
-    (line_pieces 78 (node_fields n) (nodes_text ns) (λ e. omega arith) (node_short s n fit.0))
-    s (with_node s n) (node_line_lem s n fit.0 (omega arith))
+    ap (later_lines s) (line_pieces 78 (node_fields n) (nodes_text ns) (λ e. omega arith) (node_short s n fit.0))
+    ∙ line_good (78 ∷ field_texts (node_fields n)) (nodes_text ns) s (with_node s n) (node_line_lem s n fit.0 (omega arith))
     ∙ nodes_back (with_node s n) ns fit.1 (omega arith)
     ∙ ap (λ (t : List Node). Ok (record { cells = s.cells; steps = s.steps; inputs = s.inputs; table = t })) (append_assoc s.table (n ∷ []) ns)
 
@@ -141,9 +148,8 @@ inputs_back : (s : SheetMeaning) (vs : List Value) (rest : List ℕ) → is_empt
 inputs_back s [] rest none fit h = ap (λ (i : List Value). later_lines (record { cells = s.cells; steps = s.steps; inputs = i; table = s.table }) (cut 10 rest)) (sym (append-nil s.inputs))
 inputs_back s (v ∷ vs) rest none fit h =
     let more = length_push s.inputs v in
-    line_good (inputs_text (v ∷ vs) rest) (73 ∷ field_texts (input_fields v)) (inputs_text vs rest)
-    (line_pieces 73 (input_fields v) (inputs_text vs rest) (λ e. omega arith) (input_short s v fit.0))
-    s (with_input s v) (input_line_lem s v fit.0 none (omega arith))
+    ap (later_lines s) (line_pieces 73 (input_fields v) (inputs_text vs rest) (λ e. omega arith) (input_short s v fit.0))
+    ∙ line_good (73 ∷ field_texts (input_fields v)) (inputs_text vs rest) s (with_input s v) (input_line_lem s v fit.0 none (omega arith))
     ∙ inputs_back (with_input s v) vs rest none fit.1 (omega arith)
     ∙ ap (λ (i : List Value). later_lines (record { cells = s.cells; steps = s.steps; inputs = i; table = s.table }) (cut 10 rest)) (append_assoc s.inputs (v ∷ []) vs)
 
@@ -167,9 +173,8 @@ reads_back s w =
     let rest = inputs_text s.inputs (nodes_text s.table) in
     let few = w.few_inputs in
     let nodes = w.few_nodes in
-    first_good (sheet_text s) (67 ∷ field_texts job) rest
-    (line_pieces 67 job rest (λ e. omega arith) (first_short s.cells s.steps w.job))
-    (opened s.cells s.steps) (first_line_lem s.cells s.steps w.job)
+    ap sheet_lines (line_pieces 67 job rest (λ e. omega arith) (first_short s.cells s.steps w.job))
+    ∙ first_good (67 ∷ field_texts job) rest (opened s.cells s.steps) (first_line_lem s.cells s.steps w.job)
     ∙ inputs_back (opened s.cells s.steps) s.inputs (nodes_text s.table) refl w.inputs (omega arith)
     ∙ nodes_back (with_inputs (opened s.cells s.steps) s.inputs) s.table w.table (omega arith)
 
