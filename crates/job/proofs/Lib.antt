@@ -1,8 +1,6 @@
-pub mod Held
 pub mod Pieces
 pub mod Digits
 pub mod Fields
-pub mod Widths
 pub mod Sheets
 pub mod Readback
 pub mod Spent

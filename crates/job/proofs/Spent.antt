@@ -29,7 +29,7 @@ module _ (t : List Node) (notes : List Note) (steps : ℕ) (s₀ : State) (left 
       rw (spending.open_still, a, b) refl
 
   pub never_refused : (e : GrantRefusal) → Err e ≡ grant_answer t notes opened grant s → ⊥
-  never_refused e r = let x = r ∙ accepted in let z : ◌≡◌ {A = ℕ} 0 1 = cc in omega arith
+  never_refused e r = let x = r ∙ accepted in cc
 
   took : (taken : ℕ) → Ok taken ≡ grant_answer t notes opened grant s → taken ≡ steps_taken t notes grant s
   took taken r = let x = r ∙ accepted in cc

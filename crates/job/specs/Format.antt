@@ -1,5 +1,5 @@
 -- What a sheet's text says: line by line, and the first line with a fault decides.
-use Rattle.std.specs.Prelude.{ℕ, ◌+◌, ◌-◌, ◌^◌, Bool, true, false, cond, ◌&&◌, List, [], ◌∷◌, ◌++◌, map, length, Some, None, Ok, Err, Option, Result, nat_le, nat_lt, slice_index}
+use Rattle.std.specs.Prelude.{ℕ, ◌+◌, ◌-◌, ◌^◌, Bool, true, false, if◌then◌else◌, ◌&&◌, List, [], ◌∷◌, ◌++◌, map, length, Some, None, Ok, Err, Option, Result, nat_le, nat_lt, slice_index}
 use Rattle.checker.specs.declared.node.Node.{Node}
 use Rattle.memories.specs.declared.value.Value.{Value}
 use Rattle.job.specs.declared.sheet.SheetQuestion.{SheetQuestion}
@@ -124,7 +124,7 @@ next_line s = 2 + (length s.inputs + length s.table)
 -- each piece but the last is a line, and nothing follows the last newline
 abbrev pub later_lines : SheetMeaning → List (List ℕ) → Result SheetMeaning SheetRefusal
 later_lines s [] = Ok s
-later_lines s (end ∷ []) = cond (is_empty end) (Ok s) (refused LineForm (next_line s))
+later_lines s (end ∷ []) = if is_empty end then Ok s else refused LineForm (next_line s)
 later_lines s (line ∷ next ∷ more) = and_then (next_line s) (later_line s line) (λ t. later_lines t (next ∷ more))
 
 abbrev pub sheet_lines : List (List ℕ) → Result SheetMeaning SheetRefusal

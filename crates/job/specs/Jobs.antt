@@ -1,5 +1,5 @@
 -- What a job comes to: from the bytes of its sheet to the bytes that it prints.
-use Rattle.std.specs.Prelude.{◌≡◌, ℕ, true, cond, List, [], length, replicate, pos, is_ok, Ok, Err, Result, ◌==◌, nat_le}
+use Rattle.std.specs.Prelude.{◌≡◌, ℕ, true, if◌then◌else◌, List, [], length, replicate, pos, is_ok, Ok, Err, Result, ◌==◌, nat_le}
 use Rattle.checker.specs.declared.node.Node.{Node}
 use Rattle.checker.specs.declared.note.Note.{Note}
 use Rattle.checker.specs.Notes.{unnoted}
@@ -45,7 +45,7 @@ told s = told_of (view s.course [])
 
 -- the line of a node, 0 where there is none
 abbrev pub line_of : List Node → ℕ → ℕ
-line_of t n = cond (n == 0) 0 (cond (nat_le n (length t)) (node_at t n).line 0)
+line_of t n = if n == 0 then 0 else if nat_le n (length t) then (node_at t n).line else 0
 
 abbrev pub verdict_of : RunVerdict → Verdict
 verdict_of StillRuns = Running

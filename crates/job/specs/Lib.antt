@@ -1,4 +1,3 @@
-pub mod Held
 pub mod Lines
 pub mod Pieces
 pub mod Format

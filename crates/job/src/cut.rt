@@ -1,51 +1,58 @@
 // A text is cut at its marks, and a line into its letter and its numbers.
-ghost use Rattle.std.specs.Prelude.{◌≡◌, ◌+◌, ◌<◌, ◌∷◌, length};
+ghost use Rattle.std.specs.Prelude.{◌≡◌, ◌+◌, ◌<◌, ◌==◌, ◌∷◌, length, position};
+ghost use Rattle.std.specs.Char.{is_ascii_digit};
+ghost use Rattle.std.specs.List.{list_all};
 ghost use Rattle.job.specs.Lines.{cut, number_of, numbers_of, fields_of};
 ghost use Rattle.job.specs.Pieces.{further, rest_length};
+
+use std::str;
 
 const MOST_DIGITS: usize = 13;
 
 // The first piece of a text, and what follows its mark where it has one.
-#[derive(Clone, Copy)]
+#[derive(Clone, Copy, Debug, PartialEq, Eq)]
 pub(crate) struct Cut<'a> {
     pub(crate) piece: &'a [u8],
     pub(crate) rest: Option<&'a [u8]>,
+}
+
+// The index of the first mark.
+fn first_mark(bytes: &[u8], mark: u8) -> Option<usize>
+    ensures { result ≡ position (λ byte. byte == mark) bytes.now }
+{
+    bytes.iter().position(|byte| *byte == mark)
 }
 
 pub(crate) fn cut_first<'a>(bytes: &'a [u8], mark: u8) -> Cut<'a>
     ensures pieces { cut mark bytes.now ≡ result.piece.now ∷ further mark result.rest }
     ensures shorter { rest_length result.rest < length bytes.now + 1 }
 {
-    for i in 0..bytes.len() {
-        if bytes[i] == mark {
-            return Cut {
-                piece: &bytes[0..i],
-                rest: Some(&bytes[i + 1..]),
-            };
-        }
-    }
-    Cut {
-        piece: bytes,
-        rest: None,
+    match first_mark(bytes, mark) {
+        Some(at) => Cut {
+            piece: &bytes[..at],
+            rest: Some(&bytes[at + 1..]),
+        },
+        None => Cut {
+            piece: bytes,
+            rest: None,
+        },
     }
 }
 
-// The number of a piece that is 1 to 13 digits.
+fn all_digits(piece: &[u8]) -> bool
+    ensures { result ≡ list_all is_ascii_digit piece.now }
+{
+    piece.iter().all(|byte| byte.is_ascii_digit())
+}
+
+// The number of a piece that is 1 to 13 digits: so many fit a `u64`.
 fn number(piece: &[u8]) -> Option<u64>
     ensures { result ≡ number_of piece.now }
 {
-    if piece.len() < 1 || piece.len() > MOST_DIGITS {
+    if piece.len() > MOST_DIGITS || !all_digits(piece) {
         return None;
     }
-    let mut value = 0;
-    for i in 0..piece.len() {
-        let digit = piece[i];
-        if !digit.is_ascii_digit() {
-            return None;
-        }
-        value = value * 10 + (digit - b'0') as u64;
-    }
-    Some(value)
+    str::from_utf8(piece).unwrap().parse().ok()
 }
 
 // The numbers of the pieces that are left, where these are `N`.
@@ -54,15 +61,9 @@ fn numbers<const N: usize>(pieces: Option<&[u8]>) -> Option<[u64; N]>
 {
     let mut found = [0; N];
     let mut rest = pieces;
-    for i in 0..N {
-        let Some(text) = rest else {
-            return None;
-        };
-        let first = cut_first(text, b',');
-        let Some(value) = number(first.piece) else {
-            return None;
-        };
-        found[i] = value;
+    for place in &mut found {
+        let first = cut_first(rest?, b',');
+        *place = number(first.piece)?;
         rest = first.rest;
     }
     match rest {
@@ -76,8 +77,8 @@ pub(crate) fn fields<const N: usize>(line: &[u8], letter: u8) -> Option<[u64; N]
     ensures { result ≡ fields_of letter N line.now }
 {
     let first = cut_first(line, b',');
-    if first.piece.len() != 1 || first.piece[0] != letter {
-        return None;
+    match first.piece {
+        [byte] if *byte == letter => numbers(first.rest),
+        _ => None,
     }
-    numbers(first.rest)
 }

@@ -30,12 +30,12 @@ impl From<OpenRefusal> for Fault {
     }
 }
 
-impl Fault {
-    // The headline of a refused job. A sheet's refusal has the sheet's line.
-    pub fn headline(self) -> Headline
-        ensures { result ≡ refused_head self }
-    {
-        match self {
+// The headline of a refused job. A sheet's refusal has the sheet's line.
+impl From<Fault> for Headline {
+    ghost from_gives = { λ f h. h ≡ refused_head f };
+
+    fn from(fault: Fault) -> Headline {
+        match fault {
             Fault::Sheet(refusal) => Headline {
                 verdict: Verdict::Refused,
                 value: refusal.question.number() as i32,

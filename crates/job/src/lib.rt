@@ -3,9 +3,7 @@
 
 mod cut;
 pub mod fault;
-mod fill;
 pub mod report;
-pub mod rows;
 pub mod run;
 pub mod sheet;
 #[cfg(test)]

@@ -1,33 +1,29 @@
 // The report of a job: a line on how it stands, and then its output.
-ghost use Rattle.std.specs.Prelude.{◌≡◌, IfOk, string_bytes};
+ghost use Rattle.std.specs.Prelude.{◌≡◌, Some, IfOk};
 ghost use Rattle.job.specs.Printed.{verdict_number, headline, printed};
 
 use std::alloc::{AllocError, Global};
+use std::fmt;
 
 // How a job stands. Each verdict has a number that hosts know it by.
-#[derive(Clone, Copy)]
+#[derive(Clone, Copy, Debug, PartialEq, Eq)]
 pub enum Verdict {
-    Running,
-    Ended,
-    Trapped,
-    Refused,
+    Running = 0,
+    Ended = 1,
+    Trapped = 2,
+    Refused = 3,
 }
 
 impl Verdict {
     pub fn number(&self) -> u8
         ensures { result ≡ verdict_number self.now }
     {
-        match *self {
-            Verdict::Running => 0,
-            Verdict::Ended => 1,
-            Verdict::Trapped => 2,
-            Verdict::Refused => 3,
-        }
+        *self as u8
     }
 }
 
 // The verdict with its value, the node and the line that it speaks of, and the steps taken.
-#[derive(Clone, Copy)]
+#[derive(Clone, Copy, Debug, PartialEq, Eq)]
 pub struct Headline {
     pub verdict: Verdict,
     pub value: i32,
@@ -36,22 +32,27 @@ pub struct Headline {
     pub steps: u64,
 }
 
-fn first_line(heap: Global, head: &Headline) -> Result<String, AllocError>
-    ensures { IfOk result (λ s. string_bytes s ≡ headline head.now) }
-{
-    let verdict = head.verdict.number();
-    let value = head.value;
-    let node = head.node;
-    let line = head.line;
-    let steps = head.steps;
-    format!(in heap; "V,{verdict},{value},{node},{line},{steps}\n")
+impl fmt::Display for Headline {
+    ghost output = { λ h. Some (headline h) };
+
+    fn fmt<W: fmt::Write>(&self, f: &mut fmt::Formatter<W>) -> fmt::Result {
+        let verdict = self.verdict.number();
+        let Headline {
+            value,
+            node,
+            line,
+            steps,
+            ..
+        } = *self;
+        write!(f, "V,{verdict},{value},{node},{line},{steps}\n")
+    }
 }
 
 // The bytes of a report.
 pub fn print(heap: Global, head: &Headline, output: &[u8]) -> Result<Vec<u8>, AllocError>
     ensures { IfOk result (λ v. v.items ≡ printed head.now output.now) }
 {
-    let mut bytes = first_line(heap, head)?.into_bytes();
+    let mut bytes = format!(in heap; "{head}")?.into_bytes();
     bytes.extend_from_slice(output)?;
     Ok(bytes)
 }

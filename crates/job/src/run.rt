@@ -49,67 +49,62 @@ fn spend<M: Memory>(
     }
 }
 
-const UNNOTED: Note = Note {
-    ty: 0,
-    turned: false,
-    declaration: 0,
-};
-
-const UNNAMED: Name = Name {
-    name: 0,
-    declaration: 0,
-};
-
-const UNSET: Value = Value { ty: 0, word: 0 };
-
-// Opens the sheet's script over a memory of 4,096 cells and grants it the
-// sheet's steps.
-fn play<M: Memory>(sheet: &Sheet, session: &mut Session, memory: &mut M) -> Result<(), OpenRefusal>
-    requires few { sheet.now.steps ≤ 1_099_511_627_776 }
-    requires size { length (M.Memory.cells memory.old) ≡ 4096 }
-    ensures { Plays (meant sheet.now) result session.new }
-{
-    let mut notes = [UNNOTED; 4096];
-    let mut shelf = Shelf { count: 0 };
-    let mut names = [UNNAMED; 512];
-    let table = sheet.table();
-    let inputs = sheet.inputs();
-    let limit = sheet.cells as usize;
-    open(
-        session, table, &mut notes, &mut shelf, &mut names, memory, inputs, limit,
-    )?;
-    spend(session, table, &notes, memory, sheet.steps);
-    Ok(())
+// A sheet that was read, so that its steps are within the limit of a session.
+#[derive(Drop)]
+struct Job {
+    sheet: Sheet,
+    ghost few: { sheet.steps ≤ 1_099_511_627_776 },
 }
 
-// The script sees the cells above those of the layout program.
-fn play_above(sheet: &Sheet, session: &mut Session) -> Result<(), OpenRefusal>
-    requires { sheet.now.steps ≤ 1_099_511_627_776 }
-    ensures { Plays (meant sheet.now) result session.new }
-{
-    let mut records = [UNSET; 4160];
-    let mut memory = Window::new(CellRecords::new(&mut records), SHIFT);
-    play(sheet, session, &mut memory)
+impl Job {
+    // Opens the sheet's script over a memory of 4,096 cells and grants it the
+    // sheet's steps.
+    fn play<M: Memory>(&self, session: &mut Session, memory: &mut M) -> Result<(), OpenRefusal>
+        requires { length (M.Memory.cells memory.old) ≡ 4096 }
+        ensures { Plays (meant self.now.sheet) result session.new }
+    {
+        let mut notes = [Note::default(); 4096];
+        let mut shelf = Shelf { count: 0 };
+        let mut names = [Name::default(); 512];
+        let table = self.sheet.table();
+        let inputs = self.sheet.inputs();
+        let limit = self.sheet.cells as usize;
+        open(
+            session, table, &mut notes, &mut shelf, &mut names, memory, inputs, limit,
+        )?;
+        spend(session, table, &notes, memory, self.sheet.steps);
+        Ok(())
+    }
+
+    // The script sees the cells above those of the layout program.
+    fn play_above(&self, session: &mut Session) -> Result<(), OpenRefusal>
+        ensures { Plays (meant self.now.sheet) result session.new }
+    {
+        let mut records = [Value::default(); 4160];
+        let mut memory = Window::new(CellRecords::new(&mut records), SHIFT);
+        self.play(session, &mut memory)
+    }
 }
 
 // The line of a node, 0 where there is none.
 fn line_of(table: &[Node], node: u16) -> u16
     ensures { result ≡ line_of table.now node }
 {
-    let number = node as usize;
-    if number == 0 || number > table.len() {
-        return 0;
-    }
-    table[number - 1].line
+    usize::from(node)
+        .checked_sub(1)
+        .and_then(|index| table.get(index))
+        .map_or(0, |node| node.line)
 }
 
-fn verdict_of(verdict: RunVerdict) -> Verdict
-    ensures { result ≡ verdict_of verdict }
-{
-    match verdict {
-        RunVerdict::Running => Verdict::Running,
-        RunVerdict::Ended { value: _ } => Verdict::Ended,
-        RunVerdict::Trapped { trap: _, place: _ } => Verdict::Trapped,
+impl From<RunVerdict> for Verdict {
+    ghost from_gives = { λ v r. r ≡ verdict_of v };
+
+    fn from(verdict: RunVerdict) -> Verdict {
+        match verdict {
+            RunVerdict::Running => Verdict::Running,
+            RunVerdict::Ended { .. } => Verdict::Ended,
+            RunVerdict::Trapped { .. } => Verdict::Trapped,
+        }
     }
 }
 
@@ -119,10 +114,10 @@ fn head_of(table: &[Node], session: &Session) -> Headline
     let verdict = session.verdict();
     let node = session.place();
     Headline {
-        verdict: verdict_of(verdict),
+        verdict: verdict.into(),
         value: verdict.value(),
         node,
-        line: line_of(table, node) as u32,
+        line: line_of(table, node).into(),
         steps: session.steps(),
     }
 }
@@ -131,9 +126,11 @@ fn head_of(table: &[Node], session: &Session) -> Headline
 fn run_sheet(bytes: &[u8], session: &mut Session) -> Result<Headline, Fault>
     ensures { reported result session.new ≡ report_of (sheet_of bytes.now) }
 {
-    let sheet = read_sheet(bytes)?;
-    play_above(&sheet, session)?;
-    Ok(head_of(sheet.table(), session))
+    let job = Job {
+        sheet: read_sheet(bytes)?,
+    };
+    job.play_above(session)?;
+    Ok(head_of(job.sheet.table(), session))
 }
 
 // The bytes that the job of a sheet prints.
@@ -143,6 +140,6 @@ pub fn run(heap: Global, bytes: &[u8]) -> Result<Vec<u8>, AllocError>
     let mut session = Session::new();
     match run_sheet(bytes, &mut session) {
         Ok(head) => print(heap, &head, session.output()),
-        Err(fault) => print(heap, &fault.headline(), &[]),
+        Err(fault) => print(heap, &fault.into(), &[]),
     }
 }

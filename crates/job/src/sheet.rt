@@ -1,61 +1,46 @@
 // A job sheet: what a job may use, its inputs and its script's table.
-ghost use Rattle.std.specs.Prelude.{◌≡◌, ◌≤◌, length};
+ghost use Rattle.std.specs.Prelude.{◌≡◌, ◌≤◌, length, Ok};
 ghost use Rattle.job.specs.Lines.{cut};
-ghost use Rattle.job.specs.Format.{question_number, none_above, opened, first_line, input_line, node_line};
-ghost use Rattle.job.specs.Format.{later_line, later_lines, next_line, sheet_of};
+ghost use Rattle.job.specs.declared.sheet.SheetQuestion.TheVariants.{FieldWidth};
+ghost use Rattle.job.specs.Format.{question_number, asked, none_above, input_largest, node_largest, input_of, node_of};
+ghost use Rattle.job.specs.Format.{opened, first_line, input_line, node_line};
+ghost use Rattle.job.specs.Format.{and_then, later_line, later_lines, next_line, sheet_of};
 ghost use Rattle.job.specs.Meant.{meant, carried, meaning};
 ghost use Rattle.job.specs.Writing.{ReadsBack};
 
 use crate::cut::{cut_first, fields};
-use crate::rows::Rows;
+use arrayvec::ArrayVec;
 use checker::node::Node;
 use memories::Value;
+use std::num::TryFromIntError;
 
 const NEWLINE: u8 = b'\n';
 
-const FIRST_MOST: [u64; 2] = [65_535, 1_099_511_627_776];
-
-const INPUT_MOST: [u64; 2] = [0xff, 0xffff_ffff];
-
-const NODE_MOST: [u64; 8] = [
-    0xff,
-    0xff,
-    0xffff_ffff,
-    0xffff,
-    0xffff,
-    0xffff,
-    0xffff,
-    0xffff,
-];
+const MOST_STEPS: u64 = 1_099_511_627_776;
 
 // The questions that are asked of a sheet. Each has a number that hosts know it by.
-#[derive(Clone, Copy)]
+#[derive(Clone, Copy, Debug, PartialEq, Eq)]
 pub enum SheetQuestion {
     // Is the first line a C line with cells and steps that a job may have?
-    FirstLine,
+    FirstLine = 21,
     // Is each later line well formed and in turn?
-    LineForm,
+    LineForm = 22,
     // Does each field fit its width?
-    FieldWidth,
+    FieldWidth = 23,
     // Are there at most 64 I lines and 4,096 N lines?
-    LineCount,
+    LineCount = 24,
 }
 
 impl SheetQuestion {
     pub fn number(&self) -> u16
         ensures { result ≡ question_number self.now }
     {
-        match *self {
-            SheetQuestion::FirstLine => 21,
-            SheetQuestion::LineForm => 22,
-            SheetQuestion::FieldWidth => 23,
-            SheetQuestion::LineCount => 24,
-        }
+        *self as u16
     }
 }
 
 // Why a sheet is refused, and the number of its line, from 1.
-#[derive(Clone, Copy)]
+#[derive(Clone, Copy, Debug, PartialEq, Eq)]
 pub struct SheetRefusal {
     pub question: SheetQuestion,
     pub line: u32,
@@ -65,20 +50,43 @@ pub struct SheetRefusal {
 pub struct Sheet {
     pub cells: u16,
     pub steps: u64,
-    inputs: Rows<Value, 64>,
-    table: Rows<Node, 4096>,
+    inputs: ArrayVec<Value, 64>,
+    table: ArrayVec<Node, 4096>,
 }
 
-// Is no number above the largest of its width?
-fn none_above<const N: usize>(most: [u64; N], numbers: [u64; N]) -> bool
-    ensures { result ≡ none_above most.entry numbers.entry }
-{
-    for i in 0..N {
-        if numbers[i] > most[i] {
-            return false;
-        }
+// A number that does not fit its field's type is too wide.
+impl From<TryFromIntError> for SheetQuestion {
+    ghost from_gives = { λ _ q. q ≡ FieldWidth };
+
+    fn from(_e: TryFromIntError) -> SheetQuestion {
+        SheetQuestion::FieldWidth
     }
-    true
+}
+
+fn input_of(numbers: [u64; 2]) -> Result<Value, SheetQuestion>
+    ensures { result ≡ asked FieldWidth (none_above input_largest numbers) (Ok (input_of numbers)) }
+{
+    let [ty, word] = numbers;
+    Ok(Value {
+        ty: u8::try_from(ty)?,
+        word: u32::try_from(word)?,
+    })
+}
+
+fn node_of(numbers: [u64; 8]) -> Result<Node, SheetQuestion>
+    ensures { result ≡ asked FieldWidth (none_above node_largest numbers) (Ok (node_of numbers)) }
+{
+    let [kind, ty, value, a, b, c, next, line] = numbers;
+    Ok(Node {
+        kind: u8::try_from(kind)?,
+        ty: u8::try_from(ty)?,
+        value: u32::try_from(value)?,
+        a: u16::try_from(a)?,
+        b: u16::try_from(b)?,
+        c: u16::try_from(c)?,
+        next: u16::try_from(next)?,
+        line: u16::try_from(line)?,
+    })
 }
 
 impl Sheet {
@@ -86,22 +94,11 @@ impl Sheet {
     fn new(cells: u16, steps: u64) -> Sheet
         ensures { meant result ≡ opened cells steps }
     {
-        let value = Value { ty: 0, word: 0 };
-        let node = Node {
-            kind: 0,
-            ty: 0,
-            value: 0,
-            a: 0,
-            b: 0,
-            c: 0,
-            next: 0,
-            line: 0,
-        };
         Sheet {
             cells,
             steps,
-            inputs: Rows::new(value),
-            table: Rows::new(node),
+            inputs: ArrayVec::new(),
+            table: ArrayVec::new(),
         }
     }
 
@@ -115,78 +112,63 @@ impl Sheet {
     fn add_input(&mut self, numbers: [u64; 2]) -> Result<(), SheetQuestion>
         ensures { carried result (meant self.new) ≡ input_line (meant self.old) numbers }
     {
-        if self.table.len() > 0 {
+        if !self.table.is_empty() {
             return Err(SheetQuestion::LineForm);
         }
-        if !none_above(INPUT_MOST, numbers) {
-            return Err(SheetQuestion::FieldWidth);
-        }
-        let value = Value {
-            ty: numbers[0] as u8,
-            word: numbers[1] as u32,
-        };
-        if !self.inputs.push(value) {
-            return Err(SheetQuestion::LineCount);
-        }
-        Ok(())
+        let value = input_of(numbers)?;
+        self.inputs
+            .try_push(value)
+            .map_err(|_| SheetQuestion::LineCount)
     }
 
     fn add_node(&mut self, numbers: [u64; 8]) -> Result<(), SheetQuestion>
         ensures { carried result (meant self.new) ≡ node_line (meant self.old) numbers }
     {
-        if !none_above(NODE_MOST, numbers) {
-            return Err(SheetQuestion::FieldWidth);
-        }
-        let node = Node {
-            kind: numbers[0] as u8,
-            ty: numbers[1] as u8,
-            value: numbers[2] as u32,
-            a: numbers[3] as u16,
-            b: numbers[4] as u16,
-            c: numbers[5] as u16,
-            next: numbers[6] as u16,
-            line: numbers[7] as u16,
-        };
-        if !self.table.push(node) {
-            return Err(SheetQuestion::LineCount);
-        }
-        Ok(())
+        let node = node_of(numbers)?;
+        self.table
+            .try_push(node)
+            .map_err(|_| SheetQuestion::LineCount)
     }
 
     fn add_line(&mut self, line: &[u8]) -> Result<(), SheetQuestion>
         ensures { carried result (meant self.new) ≡ later_line (meant self.old) line.now }
     {
-        if let Some(numbers) = fields::<2>(line, b'I') {
-            return self.add_input(numbers);
+        if let Some(numbers) = fields(line, b'I') {
+            self.add_input(numbers)
+        } else if let Some(numbers) = fields(line, b'N') {
+            self.add_node(numbers)
+        } else {
+            Err(SheetQuestion::LineForm)
         }
-        match fields::<8>(line, b'N') {
-            Some(numbers) => self.add_node(numbers),
-            None => Err(SheetQuestion::LineForm),
-        }
+    }
+
+    // Adds the line, whose number is the next, or says what is wrong with it.
+    fn add_next(&mut self, line: &[u8]) -> Result<(), SheetRefusal>
+        ensures { carried result (meant self.new) ≡ and_then (next_line (meant self.old)) (later_line (meant self.old) line.now) (λ s. Ok s) }
+    {
+        let number = self.next_line();
+        self.add_line(line).map_err(|question| SheetRefusal {
+            question,
+            line: number,
+        })
     }
 
     // Adds the lines of `text`, each ended by a newline.
     fn add_lines(&mut self, text: &[u8]) -> Result<(), SheetRefusal>
         ensures { carried result (meant self.new) ≡ later_lines (meant self.old) (cut 10 text.now) }
     {
-        let mut rest = text;
-        loop {
-            let first = cut_first(rest, NEWLINE);
-            let line = self.next_line();
-            let Some(more) = first.rest else {
-                if first.piece.len() == 0 {
-                    return Ok(());
-                }
-                return Err(SheetRefusal {
-                    question: SheetQuestion::LineForm,
-                    line,
-                });
-            };
-            if let Err(question) = self.add_line(first.piece) {
-                return Err(SheetRefusal { question, line });
-            }
-            rest = more;
+        let mut first = cut_first(text, NEWLINE);
+        while let Some(rest) = first.rest {
+            self.add_next(first.piece)?;
+            first = cut_first(rest, NEWLINE);
         }
+        if !first.piece.is_empty() {
+            return Err(SheetRefusal {
+                question: SheetQuestion::LineForm,
+                line: self.next_line(),
+            });
+        }
+        Ok(())
     }
 
     pub fn inputs(&self) -> &[Value]
@@ -207,13 +189,11 @@ impl Sheet {
 fn read_first(line: &[u8]) -> Result<Sheet, SheetQuestion>
     ensures { meaning result ≡ first_line line.now }
 {
-    let Some(numbers) = fields::<2>(line, b'C') else {
-        return Err(SheetQuestion::FirstLine);
-    };
-    if numbers[0] < 1 || numbers[1] < 1 || !none_above(FIRST_MOST, numbers) {
-        return Err(SheetQuestion::FirstLine);
+    let [cells, steps] = fields::<2>(line, b'C').ok_or(SheetQuestion::FirstLine)?;
+    match (cells, steps) {
+        (1..=0xffff, 1..=MOST_STEPS) => Ok(Sheet::new(cells as u16, steps)),
+        _ => Err(SheetQuestion::FirstLine),
     }
-    Ok(Sheet::new(numbers[0] as u16, numbers[1]))
 }
 
 // The sheet that `bytes` writes, or the first line with a fault and the question that it fails.
@@ -222,17 +202,11 @@ pub fn read_sheet(bytes: &[u8]) -> Result<Sheet, SheetRefusal>
     ensures back { ReadsBack bytes.now (meaning result) }
 {
     let first = cut_first(bytes, NEWLINE);
-    let Some(rest) = first.rest else {
-        return Err(SheetRefusal {
-            question: SheetQuestion::FirstLine,
-            line: 1,
-        });
-    };
-    match read_first(first.piece) {
-        Err(question) => Err(SheetRefusal { question, line: 1 }),
-        Ok(mut sheet) => {
-            sheet.add_lines(rest)?;
-            Ok(sheet)
-        }
-    }
+    let rest = first.rest.ok_or(SheetRefusal {
+        question: SheetQuestion::FirstLine,
+        line: 1,
+    })?;
+    let mut sheet = read_first(first.piece).map_err(|question| SheetRefusal { question, line: 1 })?;
+    sheet.add_lines(rest)?;
+    Ok(sheet)
 }

@@ -1,25 +1,11 @@
-use Rattle.std.proofs.Common.{arith}
-use native.Mathlib.Nat.{sub-zero}
-use Rattle.std.proofs.lemmas.List.{take_rest, length-drop}
-use Rattle.job.specs.Lines.{cut}
-use Rattle.job.proofs.Pieces.{cut_on, cut_here, cut_all, before_none}
+use Rattle.std.proofs.Common.{sym, ◌∙◌}
+use Rattle.std.proofs.lemmas.List.{take_rest}
+use Rattle.job.proofs.Pieces.{cut_found, cut_unfound}
 use Rattle.job.proofs.cut.cut_first.Goals as goal
 
-pub loop-i-init : goal.loop-i-init
-loop-i-init c = before_none (cut c.args.mark c.args.bytes.now)
+pub returns-in-Some-clause-pieces : goal.returns-in-Some-clause-pieces
+returns-in-Some-clause-pieces c =
+    simp take_rest (cut_found c.args.mark c.args.bytes.now c.in-Some.at (sym c.in-Some.is ∙ c.first_mark.ensures))
 
-pub loop-i-preserved : goal.loop-i-preserved
-loop-i-preserved c = cut_on c.args.mark c.args.bytes.now c.loop-i.i c.loop-i-test.true c.if-bytes-i.false c.loop-i.invariant
-
-pub returns-then-bytes-i : goal.returns-then-bytes-i
-returns-then-bytes-i c =
-    simp (sub-zero, take_rest, length-drop) record {
-      pieces = cut_here c.args.mark c.args.bytes.now c.loop-i.i c.loop-i-test.true c.if-bytes-i.true c.loop-i.invariant;
-      shorter = omega (arith, c.loop-i-test.true);
-    }
-
-pub returns : goal.returns
-returns c = record {
-  pieces = cut_all c.args.mark c.args.bytes.now c.loop-i.i c.loop-i-test.false c.loop-i.invariant;
-  shorter = omega arith;
-}
+pub returns-in-None-clause-pieces : goal.returns-in-None-clause-pieces
+returns-in-None-clause-pieces c = cut_unfound c.args.mark c.args.bytes.now (sym c.in-None.is ∙ c.first_mark.ensures)

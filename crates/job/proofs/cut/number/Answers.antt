@@ -1,38 +1,19 @@
-use Rattle.std.proofs.Common.{◌-◌, get_or, sym, refl, arith}
-use Rattle.job.proofs.Digits.{fits, in_range, read_on, read_not, read_all, wrong_length}
+use Rattle.std.proofs.Common.{◌≤◌, length, sym, ◌∙◌, arith, rules}
+use Rattle.std.proofs.lemmas.Str.{IsUtf8-from_ascii}
+use Rattle.std.proofs.lemmas.Str.Parse.{parse_digits}
+use Rattle.job.proofs.Digits.{numerals, all_digits, digits_ascii, parsed}
 use Rattle.job.proofs.cut.number.Goals as goal
 
-pub returns-then-piece-lt1 : goal.returns-then-piece-lt1
-returns-then-piece-lt1 c = wrong_length c.args.piece.now c.then-piece-lt1.either
-
-pub loop-i-init : goal.loop-i-init
-loop-i-init c = record { small = omega arith; so = refl; digits = refl }
-
-pub loop-i-preserved : goal.loop-i-preserved
-loop-i-preserved c =
-    read_on c.args.piece.now c.loop-i.i c.loop-i.value c.loop-i-test.true
-    (sym c.if-not-is_ascii_digit.ensures.value) c.loop-i.invariant
-
-pub overflow_mul-value : goal.overflow_mul-value
-overflow_mul-value c =
-    let f = fits c.loop-i.i c.loop-i.value 0 (omega arith) c.loop-i.invariant.small (omega arith) in
-    omega arith
-
-pub overflow_add-value : goal.overflow_add-value
-overflow_add-value c =
-    let digit = get_or c.args.piece.now c.loop-i.i 0 in
-    let d = in_range digit (sym c.if-not-is_ascii_digit.ensures.value) in
-    let low = d.0 in
-    let high = d.1 in
-    let f = fits c.loop-i.i c.loop-i.value (digit - 48) (omega arith) c.loop-i.invariant.small (omega arith) in
-    omega arith
-
-pub returns-then-not-is_ascii_digit : goal.returns-then-not-is_ascii_digit
-returns-then-not-is_ascii_digit c =
-    read_not c.args.piece.now c.loop-i.i c.loop-i.value c.loop-i-test.true
-    (sym c.if-not-is_ascii_digit.ensures.value) c.loop-i.invariant
+pub unwrap-requires : goal.unwrap-requires
+unwrap-requires c =
+    let text = IsUtf8-from_ascii c.args.piece.now (digits_ascii c.args.piece.now (sym c.if-not-all_digits.ensures)) in
+    search rules
 
 pub returns : goal.returns
 returns c =
-    read_all c.args.piece.now c.loop-i.i c.loop-i.value c.if-piece-lt1.false
-    c.if-piece-gt-MOST_DIGITS.false c.loop-i-test.false c.loop-i.invariant
+    let piece = c.args.piece.now in
+    let few : length piece ≤ 13 = omega arith in
+    let digits = sym c.if-not-all_digits.ensures in
+    let text = rw c.unwrap.ensures at c.from_utf8.ensures.cases in
+    let parses = rw text.0 at c.parse.ensures.value.0 in
+    c.ok.ensures.value ∙ parsed piece c.parse.result few digits (parse_digits numerals 64 piece c.parse.result parses (sym (all_digits piece) ∙ digits))

@@ -1,37 +1,29 @@
-use Rattle.std.proofs.Common.{◌≡◌, Ok, sym, ◌∙◌, rules}
-use Rattle.job.specs.declared.sheet.SheetQuestion.TheVariants.{FirstLine}
-use Rattle.job.specs.Format.{refused, sheet_of}
+use Rattle.std.proofs.Common.{◌≡◌, ◌∷◌, Some, Ok, arith, sym, ap, ◌∙◌, rules}
+use Rattle.job.specs.Lines.{cut}
+use Rattle.job.specs.Pieces.{further}
+use Rattle.job.specs.Format.{and_then, first_line, later_lines, sheet_lines, sheet_of}
 use Rattle.job.specs.Meant.{meant, meaning}
 use Rattle.job.proofs.Readback.{back}
-use Rattle.job.proofs.Sheets.{cuts, first_faulty, first_good}
+use Rattle.job.proofs.Sheets.{sheet_on}
 use Rattle.job.proofs.sheet.read_sheet.Goals as goal
 
-pub returns-in_default : goal.returns-in_default
-returns-in_default c =
-    let exact : refused FirstLine 1 ≡ sheet_of c.args.bytes.now = search rules in
-    record { exact = exact; back = back c.args.bytes.now (refused FirstLine 1) exact }
+pub returns-in_err-rest-clause-back : goal.returns-in_err-rest-clause-back
+returns-in_err-rest-clause-back c = back c.args.bytes.now (meaning c.from_residual.result) (search rules)
 
-pub returns-in-Err : goal.returns-in-Err
-returns-in-Err c =
-    let first = c.cut_first-first.result in
-    let exact =
-    first_faulty c.args.bytes.now first.piece.now c.in-Some.rest.now
-    (cuts c.args.bytes.now first.piece.now first.rest c.in-Some.rest c.cut_first-first.ensures.pieces c.in-Some.is)
-    c.in-Err.question c.in-Err.ensures in
-    record { exact = exact; back = back c.args.bytes.now (refused c.in-Err.question 1) exact }
+pub returns-in_err-sheet-clause-back : goal.returns-in_err-sheet-clause-back
+returns-in_err-sheet-clause-back c = back c.args.bytes.now (meaning c.from_residual-in_err-sheet.result) (search rules)
 
-pub returns-in_err-add_lines-in-Ok : goal.returns-in_err-add_lines-in-Ok
-returns-in_err-add_lines-in-Ok c =
-    let answer = meaning c.from_residual.result in
-    let exact : answer ≡ sheet_of c.args.bytes.now = search rules in
-    record { exact = exact; back = back c.args.bytes.now answer exact }
+pub returns-in_err-add_lines-clause-back : goal.returns-in_err-add_lines-clause-back
+returns-in_err-add_lines-clause-back c = back c.args.bytes.now (meaning c.from_residual-in_err-add_lines.result) (search rules)
 
-pub returns-in_ok-add_lines-in-Ok : goal.returns-in_ok-add_lines-in-Ok
-returns-in_ok-add_lines-in-Ok c =
-    let first = c.cut_first-first.result in
-    let exact =
-    c.in_ok-add_lines-in-Ok.ensures
-    ∙ sym (first_good c.args.bytes.now first.piece.now c.in-Some.rest.now
-    (cuts c.args.bytes.now first.piece.now first.rest c.in-Some.rest c.cut_first-first.ensures.pieces c.in-Some.is)
-    (meant c.in-Ok.sheet) c.in-Ok.ensures) in
+pub returns : goal.returns
+returns c =
+    let line = c.cut_first-first.result.piece.now in
+    let rest : c.cut_first-first.result.rest ≡ Some c.in_ok-rest.rest = grind arith in
+    let read : c.read_first.result ≡ Ok c.in_ok-sheet.sheet = search rules in
+    let first : first_line line ≡ Ok (meant c.in_ok-sheet.sheet) = sym (ap meaning (sym read) ∙ c.read_first.ensures) in
+    let exact : Ok (meant c.add_lines.new.self) ≡ sheet_of c.args.bytes.now =
+    c.in_ok-add_lines.ensures
+    ∙ sym (ap sheet_lines (c.cut_first-first.ensures.pieces ∙ ap (λ r. line ∷ further 10 r) rest) ∙ sheet_on line c.in_ok-rest.rest.now
+    ∙ ap (λ r. and_then 1 r (λ s. later_lines s (cut 10 c.in_ok-rest.rest.now))) first) in
     record { exact = exact; back = back c.args.bytes.now (Ok (meant c.add_lines.new.self)) exact }

@@ -1,22 +1,27 @@
-use Rattle.std.proofs.Common.{sym, ap, ◌∙◌}
-use Rattle.job.specs.Format.{refused}
+use Rattle.std.proofs.Common.{◌∷◌, sym, ap, ◌∙◌}
+use Rattle.std.proofs.lemmas.Result.{err_from_is_err_and}
+use Rattle.job.specs.Lines.{cut}
+use Rattle.job.specs.Format.{later_line, later_lines, next_line}
+use Rattle.job.specs.Pieces.{further}
 use Rattle.job.specs.Meant.{meant}
-use Rattle.job.proofs.Sheets.{cuts, line_faulty, line_good}
+use Rattle.job.proofs.Sheets.{lines_on, went_on, went_wrong}
 use Rattle.job.proofs.sheet.Sheet.add_lines.Goals as goal
 
-pub returns-in-Err : goal.returns-in-Err
-returns-in-Err c =
-    let first = c.cut_first-first.result in
-    ap (refused c.in-Err.question) c.next_line-line.ensures
-    ∙ line_faulty c.loop-more.rest.now first.piece.now c.in-Some.more.now
-    (cuts c.loop-more.rest.now first.piece.now first.rest c.in-Some.more c.cut_first-first.ensures.pieces c.in-Some.is)
-    (meant c.loop-more.self) c.in-Err.question c.in-Err.ensures
-    ∙ sym c.loop-more.invariant
+pub returns-in_err-add_next : goal.returns-in_err-add_next
+returns-in_err-add_next c =
+    let line = c.loop-first.first.piece.now in
+    let s = meant c.loop-first.self in
+    let p = err_from_is_err_and c.from_residual.result c.from_residual.ensures.1 in
+    rw (p.1, p.2) (sym (c.loop-first.invariant ∙ ap (λ r. later_lines s (line ∷ further 10 r)) c.in-Some.is
+    ∙ lines_on line c.in-Some.rest.now s
+    ∙ went_wrong (next_line s) (λ t. later_lines t (cut 10 c.in-Some.rest.now)) (later_line s line) _ c.in_err-add_next.ensures))
 
-pub loop-more-preserved : goal.loop-more-preserved
-loop-more-preserved c =
-    let first = c.cut_first-first.result in
-    c.loop-more.invariant
-    ∙ line_good c.loop-more.rest.now first.piece.now c.in-Some.more.now
-    (cuts c.loop-more.rest.now first.piece.now first.rest c.in-Some.more c.cut_first-first.ensures.pieces c.in-Some.is)
-    (meant c.loop-more.self) (meant c.add_line.new.self) c.in_default-add_line.ensures
+pub loop-first-preserved : goal.loop-first-preserved
+loop-first-preserved c =
+    let line = c.loop-first.first.piece.now in
+    let s = meant c.loop-first.self in
+    let t = meant c.add_next.new.self in
+    c.loop-first.invariant ∙ ap (λ r. later_lines s (line ∷ further 10 r)) c.in-Some.is
+    ∙ lines_on line c.in-Some.rest.now s
+    ∙ went_on (next_line s) (λ t. later_lines t (cut 10 c.in-Some.rest.now)) (later_line s line) t c.in_ok-add_next.ensures
+    ∙ ap (later_lines t) c.cut_first-first-in-Some.ensures.pieces

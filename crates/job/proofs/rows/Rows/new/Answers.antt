@@ -1,6 +1,0 @@
-use Rattle.std.proofs.Common.{zero-le}
-use Rattle.std.proofs.lemmas.List.{length-replicate}
-use Rattle.job.proofs.rows.Rows.new.Goals as goal
-
-pub invariant_of-result : goal.invariant_of-result
-invariant_of-result g c = record { fits = zero-le; whole = length-replicate g.row.N c.args.fill }
