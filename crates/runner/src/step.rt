@@ -1,4 +1,6 @@
 // A step: a node begins, and all follows that comes before the next one.
+// The memory and its limit stay two parameters: a struct that held the `&mut` would need one clause more in each
+// contract, that it still holds the same one.
 ghost use Rattle.std.specs.Prelude.{◌≡◌, ◌+◌, ◌^◌, ◌<◌, take, drop};
 ghost use Rattle.runner.specs.Newest.{held};
 ghost use Rattle.runner.specs.State.{scene, view};
@@ -76,6 +78,7 @@ pub fn walk<M: Memory>(
     ensures after { view course.new (take limit (M.Memory.cells memory.new)) ≡ ran script.entry.table.now script.entry.notes.now grant (view course.old (take limit (M.Memory.cells memory.old))) }
     ensures beyond { drop limit (M.Memory.cells memory.new) ≡ drop limit (M.Memory.cells memory.old) }
 {
+    // a `for` that can stop early; `take_while` and `count` would hide the step in a test
     for count in 0..grant {
         if !step(course, script, memory, limit) {
             return count;
