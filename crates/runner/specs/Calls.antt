@@ -13,8 +13,8 @@ use Rattle.runner.specs.declared.refusal.OpenRefusal.{OpenRefusal}
 use Rattle.runner.specs.declared.refusal.OpenRefusal.TheVariants.{Check, CellLimit, Inputs}
 use Rattle.runner.specs.declared.refusal.GrantRefusal.{GrantRefusal}
 use Rattle.runner.specs.declared.refusal.GrantRefusal.TheVariants.{NotOpen, GrantTooLarge, TooManySteps}
-use Rattle.runner.specs.State.{State, Cell, view}
-use Rattle.runner.specs.Rules.{with_next, resting}
+use Rattle.runner.specs.State.{State, Cell, resting, view}
+use Rattle.runner.specs.Rules.{with_next}
 use Rattle.runner.specs.Run.{ran, steps_taken}
 use Rattle.runner.specs.Books.{Books, books_of}
 use Rattle.runner.specs.Given.{given, acceptable}

@@ -1,5 +1,5 @@
 -- The rules: what begins at each node, and what each frame does with what it is handed.
-use Rattle.std.specs.Prelude.{◌≡◌, ℕ, ◌-◌, if◌then◌else◌, not, ◌&&◌, ◌||◌, List, [], ◌∷◌, ◌++◌, pos, Some, None, Option, ◌==◌}
+use Rattle.std.specs.Prelude.{◌≡◌, ℕ, ◌-◌, if◌then◌else◌, not, ◌&&◌, ◌||◌, List, ◌∷◌, ◌++◌, pos, Some, None, Option, ◌==◌}
 use Rattle.std.specs.List.{slice_get}
 use Rattle.std.specs.declared.ops.ControlFlow.{ControlFlow}
 use Rattle.std.specs.declared.ops.ControlFlow.TheVariants.{Continue, Break}
@@ -14,14 +14,10 @@ use Rattle.runner.specs.declared.turn.Turn.TheVariants.{Hands, Waits, Prints, Tr
 use Rattle.runner.specs.declared.trap.Trap.{Trap}
 use Rattle.runner.specs.declared.trap.Trap.TheVariants.{OutputFull, TooDeep, NoRule}
 use Rattle.runner.specs.declared.verdict.Verdict.{Verdict}
-use Rattle.runner.specs.declared.verdict.Verdict.TheVariants.{Running, Ended, Trapped}
+use Rattle.runner.specs.declared.verdict.Verdict.TheVariants.{Ended, Trapped}
 use Rattle.runner.specs.Newest.{room}
 use Rattle.runner.specs.Printed.{int_text, line_of, newline, output_fits}
 use Rattle.runner.specs.State.{Core, World}
-
--- nothing is begun, printed or taken, and the next node is to be set
-abbrev pub resting : Core
-resting = record { frames = []; next = 0; verdict = Running; world = record { output = []; taken = 0 } }
 
 -- A core with one part changed.
 abbrev pub with_frames : List Frame → Core → Core

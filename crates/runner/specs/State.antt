@@ -1,8 +1,9 @@
 -- What a session is, from what each rule may change to the whole.
-use Rattle.std.specs.Prelude.{ℕ, List, Option}
+use Rattle.std.specs.Prelude.{ℕ, List, [], Option}
 use Rattle.memories.specs.declared.value.Value.{Value}
 use Rattle.runner.specs.declared.frame.Frame.{Frame}
 use Rattle.runner.specs.declared.verdict.Verdict.{Verdict}
+use Rattle.runner.specs.declared.verdict.Verdict.TheVariants.{Running}
 use Rattle.runner.specs.declared.machine.Machine.{Machine}
 use Rattle.runner.specs.declared.machine.Course.{Course}
 use Rattle.runner.specs.Newest.{held}
@@ -26,6 +27,10 @@ pub record Core : Type 0 where
   pub next : ℕ
   pub verdict : Verdict
   pub world : World
+
+-- nothing is begun, printed or taken, and the next node is to be set
+abbrev pub resting : Core
+resting = record { frames = []; next = 0; verdict = Running; world = record { output = []; taken = 0 } }
 
 -- what all that follows a node may change
 pub record Scene : Type 0 where

@@ -34,10 +34,10 @@ fn begin_at(script: Script, number: u16) -> Turn
     ensures { (s : Core) → flow_of result s ≡ begin_at script.entry.table.now script.entry.notes.now number s }
 {
     let Some(node) = script.node(number) else {
-        return no_rule(number);
+        return Turn::no_rule(number);
     };
     let Some(note) = script.note(number) else {
-        return no_rule(number);
+        return Turn::no_rule(number);
     };
     begin_node(number, node, note)
 }
@@ -64,7 +64,7 @@ fn begin_node(number: u16, node: Node, note: Note) -> Turn
             word: node.value,
         })),
         25 if note.declaration == 0 => begin_put(number, node),
-        _ => no_rule(number),
+        _ => Turn::no_rule(number),
     }
 }
 
@@ -81,16 +81,6 @@ fn begin_put(number: u16, node: Node) -> Turn
             frame: Frame::InCall { call: number },
             next: node.a,
         },
-        _ => no_rule(number),
-    }
-}
-
-// No rule fits at the node `place`.
-pub fn no_rule(place: u16) -> Turn
-    ensures { result ≡ Turn.Traps Trap.NoRule place }
-{
-    Turn::Traps {
-        trap: Trap::NoRule,
-        place,
+        _ => Turn::no_rule(number),
     }
 }

@@ -1,7 +1,7 @@
 // What is begun and not finished.
 
 // What a node that is begun and not finished waits for.
-#[derive(Clone, Copy)]
+#[derive(Clone, Copy, Debug, Eq, PartialEq)]
 pub enum Frame {
     // the end of a statement of a block
     InBlock { block: u16, statement: u16 },
@@ -11,7 +11,7 @@ pub enum Frame {
     InCall { call: u16 },
 }
 
-// What stands in the places of a stack that hold no frame.
+// What stands in the places of a stack that hold no frame. By hand, since a derive takes a case without fields.
 impl Default for Frame {
     fn default() -> Frame {
         Frame::InStatement { statement: 0 }

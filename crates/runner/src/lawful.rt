@@ -9,6 +9,7 @@ use memories::Value;
 pub type Inputs = ArrayVec<Value, 64>;
 
 // There is one NaN.
+#[tactic(auto, using(crate::proofs::Floats::nan_lawful))]
 fn is_lawful_float(word: u32) -> bool
     ensures { result ≡ lawful_float word }
 {

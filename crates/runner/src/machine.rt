@@ -22,9 +22,9 @@ pub struct Machine {
     ghost fits: { length frames.items ≤ 1024 },
 }
 
+// By hand, since no default is derived where a ghost field stands.
 impl Default for Machine {
-    ghost use Rattle.runner.specs.State.{core_of};
-    ghost use Rattle.runner.specs.Rules.{resting};
+    ghost use Rattle.runner.specs.State.{core_of, resting};
 
     ghost is_default = { λ m. core_of m ≡ resting };
 

@@ -31,13 +31,14 @@ fn is_main(node: Node) -> bool
     node.kind == 2 && node.value == 10
 }
 
+// The first main.
 fn first_main(table: &[Node]) -> Option<Node>
     ensures { result ≡ find is_main table.now }
 {
     table.iter().copied().find(|node| is_main(*node))
 }
 
-// The block of the first main, or 0.
+// The block of the first main, or 0, which is a table's number for none.
 fn main_body(table: &[Node]) -> u16
     ensures { result ≡ main_body table.now }
 {
@@ -45,11 +46,13 @@ fn main_body(table: &[Node]) -> u16
 }
 
 // Clears the cells below the limit.
+#[tactic(auto, using(crate::proofs::Below::fills))]
 fn clear_below<M: Memory>(memory: &mut M, limit: usize)
     requires { limit ≤ length (M.Memory.cells memory.old) }
     ensures below { take limit (M.Memory.cells memory.new) ≡ replicate limit None }
     ensures beyond { drop limit (M.Memory.cells memory.new) ≡ drop limit (M.Memory.cells memory.old) }
 {
+    // a `for`, since a chain would need a closure that holds the memory, and be no shorter
     for cell in 0..limit {
         let _ = memory.clear(cell);
     }

@@ -30,13 +30,14 @@ impl OpenRefusal {
         ensures { result ≡ open_number self }
     {
         match self {
+            // the check's own numbers, so no cast of this enum has them
             OpenRefusal::Check(refusal) => refusal.question.number(),
             OpenRefusal::CellLimit => 31,
             OpenRefusal::Inputs => 32,
         }
     }
 
-    // The node that is refused, or 0.
+    // The node that is refused, or 0, which hosts know as none.
     pub fn node(self) -> u16
         ensures { result ≡ open_node self }
     {
@@ -46,7 +47,7 @@ impl OpenRefusal {
         }
     }
 
-    // The line of that node, or 0.
+    // The line of that node, or 0, which hosts know as none.
     pub fn line(self) -> u16
         ensures { result ≡ open_line self }
     {

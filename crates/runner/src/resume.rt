@@ -3,7 +3,6 @@ ghost use Rattle.std.specs.Prelude.{◌≡◌};
 ghost use Rattle.runner.specs.State.{Core};
 ghost use Rattle.runner.specs.Rules.{flow_of, resumes, in_block, in_call};
 
-use crate::begin::no_rule;
 use crate::frame::Frame;
 use crate::script::Script;
 use crate::turn::{Signal, Turn};
@@ -24,10 +23,10 @@ fn in_block(script: Script, signal: Signal, block: u16, statement: u16) -> Turn
     ensures { (s : Core) → flow_of result s ≡ in_block script.entry.table.now signal block statement s }
 {
     let None = signal else {
-        return no_rule(block);
+        return Turn::no_rule(block);
     };
     let Some(node) = script.node(statement) else {
-        return no_rule(block);
+        return Turn::no_rule(block);
     };
     if node.next == 0 {
         return Turn::Hands(None);
@@ -45,15 +44,15 @@ fn in_call(script: Script, signal: Signal, call: u16) -> Turn
     ensures { (s : Core) → flow_of result s ≡ in_call script.entry.table.now signal call s }
 {
     let Some(value) = signal else {
-        return no_rule(call);
+        return Turn::no_rule(call);
     };
     let Some(node) = script.node(call) else {
-        return no_rule(call);
+        return Turn::no_rule(call);
     };
     let text = match node.value {
         2 if value.ty == 2 => print_int(value.word, Ending::Nothing),
         3 if value.ty == 2 => print_int(value.word, Ending::Newline),
-        _ => return no_rule(call),
+        _ => return Turn::no_rule(call),
     };
     Turn::Prints { call, text }
 }

@@ -10,10 +10,10 @@ use crate::verdict::Verdict;
 
 // What a session was opened with.
 #[derive(Drop)]
-pub struct OpenedWith {
+pub(crate) struct OpenedWith {
     // the script has the cells below this one
-    pub limit: usize,
-    pub inputs: Inputs,
+    pub(crate) limit: usize,
+    pub(crate) inputs: Inputs,
 }
 
 #[derive(Default, Drop)]

@@ -1,4 +1,6 @@
 // A step: a node begins, and all follows that comes before the next one.
+// The memory and its limit stay two parameters: a struct that held the `&mut` would need one clause more in each
+// contract, that it still holds the same one.
 ghost use Rattle.std.specs.Prelude.{◌≡◌, ◌+◌, ◌^◌, ◌<◌, take, drop};
 ghost use Rattle.runner.specs.Newest.{held};
 ghost use Rattle.runner.specs.State.{scene, view};
@@ -14,6 +16,7 @@ use memories::Memory;
 use std::ops::ControlFlow;
 
 // Hands `first` down, frame after frame, until a node is to begin or the script is over.
+#[tactic(auto, using(crate::proofs::Held::popped_room, crate::proofs::Settled::settled_stop, crate::proofs::Settled::settled_again, crate::proofs::Settled::settled_last))]
 fn settle<M: Memory>(
     machine: &mut Machine,
     script: Script,
@@ -35,6 +38,7 @@ fn settle<M: Memory>(
 }
 
 // Begins the next node, and does all that follows before another one begins.
+#[tactic(auto, using(crate::proofs::Settled::played_stop, crate::proofs::Settled::played_again))]
 fn play<M: Memory>(machine: &mut Machine, script: Script, memory: &mut M, limit: usize)
     ensures after { scene machine.new (take limit (M.Memory.cells memory.new)) ≡ played script.entry.table.now script.entry.notes.now (scene machine.old (take limit (M.Memory.cells memory.old))) }
     ensures beyond { drop limit (M.Memory.cells memory.new) ≡ drop limit (M.Memory.cells memory.old) }
@@ -64,6 +68,7 @@ fn step<M: Memory>(course: &mut Course, script: Script, memory: &mut M, limit: u
 }
 
 // As many steps as are granted, or those left until the script is over; how many.
+#[tactic(auto, using(crate::proofs::Runs::still, crate::proofs::Runs::counts, crate::proofs::Runs::ran_none, crate::proofs::Runs::ran_more, crate::proofs::Runs::ran_past))]
 pub fn walk<M: Memory>(
     course: &mut Course,
     script: Script,
@@ -76,6 +81,7 @@ pub fn walk<M: Memory>(
     ensures after { view course.new (take limit (M.Memory.cells memory.new)) ≡ ran script.entry.table.now script.entry.notes.now grant (view course.old (take limit (M.Memory.cells memory.old))) }
     ensures beyond { drop limit (M.Memory.cells memory.new) ≡ drop limit (M.Memory.cells memory.old) }
 {
+    // a `for` that can stop early; `take_while` and `count` would hide the step in a test
     for count in 0..grant {
         if !step(course, script, memory, limit) {
             return count;

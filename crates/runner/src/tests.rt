@@ -10,13 +10,10 @@ use std::process::Abort;
 fn node(kind: u8, value: u32, a: u16, b: u16) -> Node {
     Node {
         kind,
-        ty: 0,
         value,
         a,
         b,
-        c: 0,
-        next: 0,
-        line: 0,
+        ..Node::default()
     }
 }
 
@@ -35,11 +32,7 @@ fn prints_seven() -> [Node; 6] {
 }
 
 fn no_notes() -> [Note; 6] {
-    [Note {
-        ty: 0,
-        turned: false,
-        declaration: 0,
-    }; 6]
+    [Note::default(); 6]
 }
 
 fn opened(
@@ -50,10 +43,7 @@ fn opened(
 ) -> Session {
     let mut session = Session::new();
     let mut shelf = Shelf { count: 0 };
-    let mut names = [Name {
-        name: 0,
-        declaration: 0,
-    }; 512];
+    let mut names = [Name::default(); 512];
     assert!(rt;
         open(
             &mut session,
@@ -74,7 +64,7 @@ fn opened(
 fn prints_in_four_steps(rt: HostRuntime) {
     let table = prints_seven();
     let mut notes = no_notes();
-    let mut cells = [Value { ty: 0, word: 0 }; 4];
+    let mut cells = [Value::default(); 4];
     let mut memory = CellRecords::new(&mut cells);
     let mut session = opened(&rt, &table, &mut notes, &mut memory);
     for place in 3..6 {
@@ -94,7 +84,7 @@ fn prints_in_four_steps(rt: HostRuntime) {
 fn another_table_has_no_rule(rt: HostRuntime) {
     let table = prints_seven();
     let mut notes = no_notes();
-    let mut cells = [Value { ty: 0, word: 0 }; 4];
+    let mut cells = [Value::default(); 4];
     let mut memory = CellRecords::new(&mut cells);
     let mut session = opened(&rt, &table, &mut notes, &mut memory);
     let other = [node(99, 0, 0, 0); 6];
@@ -106,17 +96,14 @@ fn another_table_has_no_rule(rt: HostRuntime) {
 }
 
 fn number(answer: Result<u32, GrantRefusal>) -> u8 {
-    match answer {
-        Ok(_) => 0,
-        Err(refusal) => refusal.number(),
-    }
+    answer.err().map_or(0, |refusal| refusal.number())
 }
 
 #[test]
 fn grants_are_refused(rt: HostRuntime) {
     let table = prints_seven();
     let mut notes = no_notes();
-    let mut cells = [Value { ty: 0, word: 0 }; 4];
+    let mut cells = [Value::default(); 4];
     let mut memory = CellRecords::new(&mut cells);
     let mut new = Session::new();
     assert_eq!(rt;

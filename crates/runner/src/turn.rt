@@ -1,4 +1,6 @@
 // How a rule ends.
+ghost use Rattle.std.specs.Prelude.{◌≡◌};
+
 use crate::frame::Frame;
 use crate::trap::Trap;
 use memories::Value;
@@ -17,4 +19,16 @@ pub enum Turn {
     Prints { call: u16, text: Text },
     // the script cannot go on
     Traps { trap: Trap, place: u16 },
+}
+
+impl Turn {
+    // No rule fits at the node `place`.
+    pub fn no_rule(place: u16) -> Turn
+        ensures { result ≡ Turn.Traps Trap.NoRule place }
+    {
+        Turn::Traps {
+            trap: Trap::NoRule,
+            place,
+        }
+    }
 }

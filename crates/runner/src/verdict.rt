@@ -4,9 +4,8 @@ ghost use Rattle.runner.specs.Verdicts.{verdict_number, verdict_value};
 
 use crate::trap::Trap;
 
-#[derive(Clone, Copy, Debug, Default, Eq, PartialEq)]
+#[derive(Clone, Copy, Debug, Eq, PartialEq)]
 pub enum Verdict {
-    #[default]
     Running,
     // the end, with main's answer
     Ended { value: i32 },
@@ -18,6 +17,7 @@ impl Verdict {
     pub fn number(self) -> u8
         ensures { result ≡ verdict_number self }
     {
+        // by cases, since `as` takes only an enum whose cases have no fields
         match self {
             Verdict::Running => 0,
             Verdict::Ended { value: _ } => 1,
