@@ -1,7 +1,6 @@
 -- Numbers are read piece by piece. Assumes nothing.
-use Rattle.std.proofs.Common.{◌≡◌, ℕ, suc, ◌+◌, ◌-◌, ◌<◌, ◌≤◌, List, [], ◌∷◌, ◌++◌, length, take, set, Some, None, Option, sym, refl, ap, ◌∙◌, append_assoc, append-nil, arith}
-use native.Mathlib.Nat.{sub-zero}
-use Rattle.std.proofs.lemmas.List.{take_more_set, take_all, length-set}
+use Rattle.std.proofs.Common.{◌≡◌, ℕ, suc, ◌+◌, ◌-◌, ◌<◌, ◌≤◌, List, [], ◌∷◌, ◌++◌, length, take, set, Some, None, Option, sym, refl, ap, ◌∙◌, append_assoc, arith}
+use Rattle.std.proofs.lemmas.List.{take_more_set, length-set}
 use Rattle.job.specs.Lines.{number_of, and_numbers, numbers_of}
 
 -- numbers in front of others, where these are there
@@ -14,16 +13,9 @@ pub record Taken (count : ℕ) (pieces : List (List ℕ)) (found : List ℕ) (i 
   pub size : length found ≡ count
   pub so : numbers_of count pieces ≡ after_numbers (take i found) (numbers_of (count - i) left)
 
-after_none : (o : Option (List ℕ)) → o ≡ after_numbers [] o
-after_none None = refl
-after_none (Some others) = refl
-
 after_more : (front : List ℕ) (n : ℕ) (o : Option (List ℕ)) → after_numbers front (and_numbers (Some n) o) ≡ after_numbers (front ++ n ∷ []) o
 after_more front n None = refl
 after_more front n (Some others) = ap Some (sym (append_assoc front (n ∷ []) others))
-
-pub taken_none : (count : ℕ) (pieces : List (List ℕ)) (found : List ℕ) → length found ≡ count → Taken count pieces found 0 pieces
-taken_none count pieces found e = record { size = e; so = rw sub-zero (after_none (numbers_of count pieces)) }
 
 module _ (count : ℕ) (pieces : List (List ℕ)) (found : List ℕ) (i : ℕ) (left : List (List ℕ)) (t : Taken count pieces found i left) where
   one_more : i < count → (l : List (List ℕ)) → left ≡ l → numbers_of count pieces ≡ after_numbers (take i found) (numbers_of (suc (count - (i + 1))) l)
@@ -38,14 +30,6 @@ module _ (count : ℕ) (pieces : List (List ℕ)) (found : List ℕ) (i : ℕ) (
       t.so ∙ ap (λ (k : ℕ). after_numbers (take i found) (numbers_of k left)) n
       ∙ ap (λ (x : List (List ℕ)). after_numbers (take i found) (numbers_of 0 x)) e
 
-  pub too_few : i < count → left ≡ [] → None ≡ numbers_of count pieces
-  too_few h e = sym (one_more h [] e)
-
-  pub no_number : (piece : List ℕ) (more : List (List ℕ)) → i < count → left ≡ piece ∷ more → None ≡ number_of piece → None ≡ numbers_of count pieces
-  no_number piece more h e none =
-      sym (one_more h (piece ∷ more) e
-      ∙ ap (λ (o : Option ℕ). after_numbers (take i found) (and_numbers o (numbers_of (count - (i + 1)) more))) (sym none))
-
   pub taken_more : (piece : List ℕ) (more : List (List ℕ)) (v : ℕ) → i < count → left ≡ piece ∷ more → Some v ≡ number_of piece → Taken count pieces (set found i v) (i + 1) more
   taken_more piece more v h e some =
       let l = t.size in
@@ -58,12 +42,6 @@ module _ (count : ℕ) (pieces : List (List ℕ)) (found : List ℕ) (i : ℕ) (
             ∙ after_more (take i found) v (numbers_of (count - (i + 1)) more)
             ∙ ap (λ (f : List ℕ). after_numbers f (numbers_of (count - (i + 1)) more)) (sym (take_more_set found i v room));
       }
-
-  pub all_taken : count ≤ i → left ≡ [] → Some found ≡ numbers_of count pieces
-  all_taken h e =
-      let l = t.size in
-      let whole : length found ≤ i = omega arith in
-      sym (no_more h [] e ∙ ap Some (append-nil (take i found) ∙ take_all i found whole))
 
   pub too_many : (piece : List ℕ) (more : List (List ℕ)) → count ≤ i → left ≡ piece ∷ more → None ≡ numbers_of count pieces
   too_many piece more h e = sym (no_more h (piece ∷ more) e)

@@ -1,7 +1,6 @@
-use Rattle.std.proofs.Common.{◌≡◌, replicate, Err, ap, ◌∙◌, arith, rules}
+use Rattle.std.proofs.Common.{◌≡◌, replicate, Err, ap, ◌∙◌, rules}
 use Rattle.std.proofs.lemmas.Result.{err_from_is_err_and}
 use Rattle.checker.specs.Notes.{unnoted}
-use Rattle.runner.specs.State.{State}
 use Rattle.job.specs.Jobs.{fresh}
 use Rattle.job.specs.Meant.{meant}
 use Rattle.job.proofs.Played.{play_refused, play_done}
@@ -14,13 +13,6 @@ returns-in_err-open g c =
     let p = err_from_is_err_and c.from_residual.result c.from_residual.ensures.1 in
     play_refused (meant c.args.self.now.sheet) c.table-table.result.now c.inputs-inputs.result.now _ _ c.table-table.ensures.rows c.inputs-inputs.ensures.rows c.requires (ap (replicate 4096) blank)
     c.from_residual.result c.in_err-open.field-0.0 c.open.new.session c.in_err-open.ensures.does.answer (p.1 ∙ ap Err p.2)
-
-pub spend-requires : goal.spend-requires
-spend-requires g c =
-    let d = c.in_ok-open.ensures.does in
-    let at = ap (λ (x : State). x.steps) d.after.shown in
-    let few = c.args.self.now.few in
-    record { opened = d.after.opened; few = omega arith }
 
 pub returns : goal.returns
 unfolding fresh
