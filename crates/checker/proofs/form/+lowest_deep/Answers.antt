@@ -8,10 +8,10 @@ pub returns-in_err-node : goal.returns-in_err-node
 returns-in_err-node t c =
     rw (c.from_residual.ensures, tree_out c.args.script.nodes.now c.args.link (sym c.in_err-node.ensures)) refl
 
-pub returns-then-depth-gt-DEEPEST : goal.returns-then-depth-gt-DEEPEST
-returns-then-depth-gt-DEEPEST t c =
+pub returns-then-too_deep : goal.returns-then-too_deep
+returns-then-too_deep t c =
     let here = item_here c.args.script.nodes.now c.args.link c.in_ok-node.node (sym c.in_ok-node.ensures) in
-    let deep : ltb 200 c.args.depth ≡ true = lt-ltb _ _ c.if-depth-gt-DEEPEST.true in
+    let deep : ltb 200 c.args.depth ≡ true = lt-ltb _ _ (omega arith) in
     rw (tree_here c.args.script.linked here, deep) refl
 
 pub lowest_deep-a-requires : goal.lowest_deep-a-requires
