@@ -1,43 +1,20 @@
 -- The questions about the whole table, node after node.
-use Rattle.std.proofs.Common.{◌≡◌, ℕ, zero, suc, ◌+◌, ◌-◌, ◌<◌, ◌≤◌, Bool, true, false, cond, ◌&&◌, eqb, leb, List, [], ◌∷◌, length, get_or, drop, Ok, Err, Result, sym, refl, ◌∙◌, inl, inr, add-zero, arith}
-use Rattle.std.proofs.lemmas.Bool.{cond-true, cond-false, cases_Bool, and_parts, leb-true}
-use Rattle.std.proofs.lemmas.List.{at_drop_more, at_drop_all}
+use Rattle.std.proofs.Common.{◌≡◌, ℕ, zero, suc, ◌+◌, ◌-◌, ◌<◌, Bool, true, ◌&&◌, ltb, List, [], ◌∷◌, length, get_or, drop, Some, Ok, sym, refl, ◌∙◌, inl, inr, add-zero, arith}
+use Rattle.std.proofs.lemmas.Bool.{lt-ltb, cond-true, cond-false, cases_Bool, and_parts}
 use Rattle.checker.specs.declared.node.Node.{Node}
-use Rattle.checker.specs.declared.refusal.Refusal.{Refusal}
-use Rattle.checker.specs.Tree.{node_at, blank, Linked}
+use Rattle.checker.specs.Tree.{node_at, tree, blank, Linked}
 use Rattle.checker.specs.declared.refusal.Question.{Question}
 use Rattle.checker.specs.declared.refusal.Question.TheVariants.{NodeForm}
-use Rattle.checker.specs.Questions.{refuse, then}
+use Rattle.checker.specs.Questions.{refuse}
 use Rattle.checker.specs.Chain.{link_fits}
-use Rattle.checker.specs.Form.{ask_from, ask_each, hit, times_linked, links_fit, root_fits, shape_fits, shape_of, node_fits, sized, formed}
-use Rattle.checker.proofs.Trees.{link_up}
+use Rattle.checker.specs.Form.{ask_from, ask_each, lowest_deep, links_fit, root_fits, shape_fits, shape_of, node_fits}
+use Rattle.checker.proofs.Trees.{Here, tree_here, link_up}
 
 -- a question asked of one node more
 module _ (test : ℕ → Node → Bool) (q : Question) (t : List Node) (i : ℕ) where
   -- what is asked of the nodes from the i-th place on is what the question comes to
   abbrev pub Asking : Type 0
   Asking = ask_each test q t ≡ ask_from test q (i + 1) (drop i t)
-
-  ask_step : i < length t → ask_from test q (i + 1) (drop i t) ≡ cond (test (i + 1) (get_or t i blank)) (ask_from test q (i + 1 + 1) (drop (i + 1) t)) (refuse q (i + 1) (get_or t i blank).line)
-  ask_step h = at_drop_more (λ (ds : List Node). ask_from test q (i + 1) ds) t i blank h
-
-  pub ask_on : i < length t → true ≡ test (i + 1) (get_or t i blank) → Asking → ask_each test q t ≡ ask_from test q (i + 1 + 1) (drop (i + 1) t)
-  ask_on h w e = e ∙ ask_step h ∙ cond-true _ _ _ (sym w)
-
-  pub ask_no : i < length t → false ≡ test (i + 1) (get_or t i blank) → Asking → ask_each test q t ≡ Err (record { question = q; node = i + 1; line = (get_or t i blank).line })
-  ask_no h w e = e ∙ ask_step h ∙ cond-false _ _ _ (sym w)
-
-  pub ask_all : length t ≤ i → Asking → ask_each test q t ≡ Ok tt
-  ask_all h e = e ∙ at_drop_all (λ (ds : List Node). ask_from test q (i + 1) ds) t i h
-
-pub times_on : (t : List Node) (n i : ℕ) → i < length t → times_linked (drop i t) n ≡ hit n (get_or t i blank).a + hit n (get_or t i blank).b + hit n (get_or t i blank).c + hit n (get_or t i blank).next + times_linked (drop (i + 1) t) n
-times_on t n i h = at_drop_more (λ (ds : List Node). times_linked ds n) t i blank h
-
-pub times_all : (t : List Node) (n i : ℕ) → length t ≤ i → times_linked (drop i t) n ≡ 0
-times_all t n i h = at_drop_all (λ (ds : List Node). times_linked ds n) t i h
-
-pub hit_one : (n l : ℕ) → hit n l ≤ 1
-hit_one n l = elim (cases_Bool (eqb l n)) [ inl e ↦ rw e (omega arith) | inr e ↦ rw e (omega arith) ]
 
 -- the links of a node that passed its test
 links_parts : (len n : ℕ) (d : Node) → links_fit len n d ≡ true → (link_fits len n d.a ≡ true) × (link_fits len n d.b ≡ true) × (link_fits len n d.c ≡ true) × (link_fits len n d.next ≡ true)
@@ -77,16 +54,7 @@ formed_linked t e n pos w =
       to_next = link_up t n (node_at t n).next l.3;
     }
 
--- where all questions about every node were answered yes, the first was
-pub first_yes : {Y : Type 0} (r : Result (Unit {0}) Refusal) (k : Unit {0} → Result Y Refusal) (y : Y) → then r k ≡ Ok y → r ≡ Ok tt
-first_yes (Ok u) k y e = refl
-first_yes (Err f) k y e = let z : ◌≡◌ {A = ℕ} 0 1 = cc in absurd (omega arith)
-
-pub nodes_linked : (t : List Node) → Ok tt ≡ formed t → Linked t
-nodes_linked t e = formed_linked t (first_yes (ask_each (node_fits t) NodeForm t) _ tt (sym e))
-
-pub sized_parts : (len places : ℕ) → sized len places ≡ true → (1 ≤ len) × (len ≤ 4096) × (len ≤ places)
-sized_parts len places e =
-    let p = and_parts (leb 1 len) (leb len 4096 && leb len places) e in
-    let q = and_parts (leb len 4096) (leb len places) p.1 in
-    (leb-true _ _ p.0, leb-true _ _ q.0, leb-true _ _ q.1)
+-- a node that is too deep is the lowest below itself
+pub deep_here : {t : List Node} {n depth : ℕ} {d : Node} → Linked t → Here t n d → 200 < depth → Some (n, d) ≡ lowest_deep depth (tree t n)
+deep_here {t} {n} {depth} linked here deep =
+    let e : ltb 200 depth ≡ true = lt-ltb _ _ deep in rw (tree_here linked here, e) refl

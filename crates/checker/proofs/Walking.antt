@@ -1,18 +1,17 @@
 -- What each way through the statements and declarations answers, over plain values.
-use Rattle.std.proofs.Common.{◌≡◌, ℕ, ◌+◌, ◌<◌, ◌≤◌, true, false, ltb, List, ◌∷◌, length, drop, set, is_some, None, Ok, Err, Option, Result, sym, refl, ap, ◌∙◌, add-one, arith}
-use Rattle.std.proofs.lemmas.Bool.{ne_eqb, eq-eqb, lt-ltb, le-ltb, false≢true}
+use Rattle.std.proofs.Common.{◌≡◌, ℕ, ◌+◌, ◌<◌, ◌≤◌, List, ◌∷◌, length, drop, set, None, Ok, Err, Result, refl, ap, ◌∙◌, add-one, arith}
+use Rattle.std.proofs.lemmas.Bool.{false≢true}
 use Rattle.checker.specs.declared.node.Node.{Node}
 use Rattle.checker.specs.declared.note.Note.{Note}
 use Rattle.checker.specs.declared.refusal.Refusal.{Refusal}
-use Rattle.checker.specs.declared.refusal.Question.TheVariants.{MainForm, ShelfRoom}
 use Rattle.checker.specs.declared.shelf.Name.{Name}
 use Rattle.checker.specs.Questions.{then}
 use Rattle.checker.specs.Search.{newest_first}
-use Rattle.checker.specs.Scope.{means, declared, built_ins}
+use Rattle.checker.specs.Scope.{built_ins}
 use Rattle.checker.specs.Tree.{tree, item_at, Linked, left}
 use Rattle.checker.specs.Typing.{Out, values}
-use Rattle.checker.specs.Judge.{statement_at, statements, enter, function, declarations, Walks, Declares, Enters}
-use Rattle.checker.proofs.Newest.{newest_set, length_newest}
+use Rattle.checker.specs.Judge.{statement_at, statements, function, declarations, Walks, Declares}
+use Rattle.checker.proofs.Newest.{newest_set}
 use Rattle.checker.proofs.Chains.{Came}
 use Rattle.checker.proofs.Trees.{tree_here, tree_out, tree_none, less_next}
 
@@ -23,9 +22,6 @@ pub record Going (t : List Node) (names : List Name) (count first : ℕ) (notes 
   pub kept : count' ≡ count
   pub beyond : drop (length t) notes' ≡ drop (length t) notes
   pub rest : statements (newest_first names count) (tree t first) notes ≡ statements (newest_first names count) (tree t now) notes'
-
-pub statements_begun : {t : List Node} {names : List Name} {count : ℕ} (first : ℕ) {notes : List Note} → Going t names count first notes t first count notes
-statements_begun first = record { table = refl; fewer = omega arith; kept = refl; beyond = refl; rest = refl }
 
 -- what the statement d at node n comes to, with the names on the shelf
 abbrev pub One : List Node → List Name → ℕ → ℕ → Node → List Note → Result (List Note) Refusal
@@ -60,28 +56,6 @@ one_more names i h e =
     newest_set names i (record { name = i + 1; declaration = 0 }) h
     ∙ ap (λ (ns : List Name). record { name = i + 1; declaration = 0 } ∷ ns) e
     ∙ rw add-one refl
-
-module _ (names : List Name) (count n : ℕ) (d : Node) (found : Option Name) (long : length names ≡ 512) (is : found ≡ means (newest_first names count) d.value) (none : false ≡ is_some found) where
-  new : is_some (means (newest_first names count) d.value) ≡ false
-  new = ap is_some (sym is) ∙ sym none
-
-  pub enter_full : (f : Refusal) → f ≡ record { question = ShelfRoom; node = n; line = d.line } → count ≤ 512 → 512 ≤ count → Enters (enter (newest_first names count) n d) (Err f) names count
-  enter_full f e w full =
-      let test : ltb (length (newest_first names count)) 512 ≡ false = le-ltb _ _ (omega (arith, length_newest names count (omega arith))) in
-      rw e (record { result = rw (new, test) refl; room = λ x. absurd (false≢true x) })
-
-  roomy : count < 512 → ltb (length (newest_first names count)) 512 ≡ true
-  roomy w = lt-ltb _ _ (omega (arith, length_newest names count (omega arith)))
-
-  pub enter_misfit : (f : Refusal) → f ≡ record { question = MainForm; node = n; line = d.line } → count < 512 → (d.ty ≡ 2 → ⊥) → Enters (enter (newest_first names count) n d) (Err f) names count
-  enter_misfit f e w ne = rw e (record { result = rw (new, roomy w, ne_eqb _ _ ne) refl; room = λ x. absurd (false≢true x) })
-
-  pub enter_done : count < 512 → d.ty ≡ 2 → Enters (enter (newest_first names count) n d) (Ok tt) (set names count (declared n d)) (count + 1)
-  enter_done w e =
-      record {
-        result = rw (new, roomy w, eq-eqb _ _ e) (ap Ok (sym (newest_set names count (declared n d) (omega arith))));
-        room = λ _. omega arith;
-      }
 
 -- The function d at node n, with the names on the shelf.
 abbrev pub Whole : List Node → List Name → ℕ → ℕ → Node → List Note → Out (List Name)

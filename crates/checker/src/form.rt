@@ -147,7 +147,8 @@ fn lowest_deep(script: Script, link: u16, depth: u8) -> Option<(u16, Node)>
     ensures { result ≡ lowest_deep depth (tree script.entry.nodes.now link) }
 {
     let node = item_at(script.nodes, link)?;
-    if depth > DEEPEST {
+    let too_deep = depth > DEEPEST;
+    if too_deep {
         return Some((link, node));
     }
     let a = lowest_deep(script, node.a, depth + 1);

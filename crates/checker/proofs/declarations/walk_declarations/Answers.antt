@@ -7,10 +7,6 @@ pub loop-number-init : goal.loop-number-init
 loop-number-init c =
     (tt, tt, rw (c.into_iter-number-iterator.ensures.into_iter_gives, c.chain-number-items.ensures.table, c.chain-number-items.ensures.first) (declarations_begun c.args.first c.requires.room c.told-names))
 
-pub invariant_of-place : goal.invariant_of-place
-invariant_of-place c =
-    record { is = (came c.args.script.linked c.loop-number.invariant.2.table c.in-Some.ensures.steps).is }
-
 pub returns-in_err-walk_function : goal.returns-in_err-walk_function
 returns-in_err-walk_function c =
     declarations_refused c.args.script.linked (came c.args.script.linked c.loop-number.invariant.2.table c.in-Some.ensures.steps)

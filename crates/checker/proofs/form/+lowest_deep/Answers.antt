@@ -1,18 +1,17 @@
-use Rattle.std.proofs.Common.{◌≡◌, true, false, ltb, sym, refl, ◌∙◌, ap₂, arith}
-use Rattle.std.proofs.lemmas.Bool.{le-ltb, lt-ltb}
+use Rattle.std.proofs.Common.{◌≡◌, false, ltb, sym, refl, ◌∙◌, ap₂, arith}
+use Rattle.std.proofs.lemmas.Bool.{le-ltb}
 use Rattle.checker.specs.Form.{lower}
 use Rattle.checker.proofs.Trees.{item_here, tree_here, tree_out, less_a, less_b, less_c, less_next}
+use Rattle.checker.proofs.Forms.{deep_here}
 use Rattle.checker.proofs.form.+lowest_deep.Goals as goal
 
 pub returns-in_err-node : goal.returns-in_err-node
 returns-in_err-node t c =
     rw (c.from_residual.ensures, tree_out c.args.script.nodes.now c.args.link (sym c.in_err-node.ensures)) refl
 
-pub returns-then-depth-gt-DEEPEST : goal.returns-then-depth-gt-DEEPEST
-returns-then-depth-gt-DEEPEST t c =
-    let here = item_here c.args.script.nodes.now c.args.link c.in_ok-node.node (sym c.in_ok-node.ensures) in
-    let deep : ltb 200 c.args.depth ≡ true = lt-ltb _ _ c.if-depth-gt-DEEPEST.true in
-    rw (tree_here c.args.script.linked here, deep) refl
+pub returns-then-too_deep : goal.returns-then-too_deep
+returns-then-too_deep t c =
+    deep_here c.args.script.linked (item_here c.args.script.nodes.now c.args.link c.in_ok-node.node (sym c.in_ok-node.ensures)) (omega arith)
 
 pub lowest_deep-a-requires : goal.lowest_deep-a-requires
 lowest_deep-a-requires t c =

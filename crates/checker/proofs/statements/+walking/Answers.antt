@@ -1,9 +1,8 @@
-use Rattle.std.proofs.Common.{ap, arith}
-use Rattle.checker.specs.Tree.{left}
+use Rattle.std.proofs.Common.{arith}
 use Rattle.checker.proofs.Trees.{item_here, less_b}
 use Rattle.checker.proofs.Chains.{came, none_came}
 use Rattle.checker.proofs.Exprs.{broken}
-use Rattle.checker.proofs.Walking.{empty_statement, statements_begun, statements_refused, statements_on, statements_done}
+use Rattle.checker.proofs.Walking.{empty_statement, statements_refused, statements_on, statements_done}
 use Rattle.checker.proofs.statements.+walking.Goals as goal
 
 pub walk_statement-walk_statements-requires : goal.walk_statement-walk_statements-requires
@@ -13,20 +12,6 @@ walk_statement-walk_statements-requires t c =
 
 pub walk_statement-returns-in-18 : goal.walk_statement-returns-in-18
 walk_statement-returns-in-18 t c = empty_statement c.args.names.now c.args.shelf.now.count c.args.place.number c.args.place.node c.in-18.is c.if-node-eq0.true
-
-pub walk_statements-loop-number-init : goal.walk_statements-loop-number-init
-walk_statements-loop-number-init t c =
-    (tt, tt, rw (c.into_iter-number-iterator.ensures.into_iter_gives, c.chain-number-items.ensures.table, c.chain-number-items.ensures.first) (statements_begun c.args.first))
-
-pub walk_statements-invariant_of-place : goal.walk_statements-invariant_of-place
-walk_statements-invariant_of-place t c =
-    record { is = (came c.args.script.linked c.loop-number.invariant.2.table c.in-Some.ensures.steps).is }
-
-pub walk_statements-walk_statement-requires : goal.walk_statements-walk_statement-requires
-walk_statements-walk_statement-requires t c =
-    let going = c.loop-number.invariant.2 in
-    let at = (came c.args.script.linked going.table c.in-Some.ensures.steps).at in
-    (omega (arith, ap (left c.args.script.nodes.now) at), omega arith)
 
 pub walk_statements-returns-in_err-walk_statement : goal.walk_statements-returns-in_err-walk_statement
 walk_statements-returns-in_err-walk_statement t c =
