@@ -8,7 +8,7 @@ use crate::sheet::SheetRefusal;
 use runner::refusal::OpenRefusal;
 
 // A fault of the sheet, or of the check or the opening, handed up whole.
-#[derive(Clone, Copy)]
+#[derive(Clone, Copy, Debug, PartialEq, Eq)]
 pub enum Fault {
     Sheet(SheetRefusal),
     Opening(OpenRefusal),

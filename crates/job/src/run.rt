@@ -12,15 +12,15 @@ use crate::sheet::{Sheet, read_sheet};
 use checker::node::Node;
 use checker::note::Note;
 use checker::shelf::{Name, Shelf};
+use checker::table::item_at;
 use memories::{CellRecords, Memory, Value, Window};
+use runner::granting::GRANT;
 use runner::refusal::OpenRefusal;
 use runner::session::Session;
 use runner::verdict::Verdict as RunVerdict;
 use runner::{advance, open};
 use std::alloc::{AllocError, Global};
 
-// The most steps of one grant.
-const GRANT: u64 = 1_000_000;
 // The cells below the window belong to the layout program.
 const SHIFT: usize = 64;
 
@@ -39,7 +39,7 @@ fn spend<M: Memory>(
     // What is left shrinks by two sizes of grant, and a stop ends it early: no range counts so.
     let mut left = steps;
     while left > 0 {
-        let grant = left.min(GRANT) as u32;
+        let grant = left.min(GRANT as u64) as u32;
         let Ok(taken) = advance(session, table, notes, memory, grant) else {
             return;
         };
@@ -91,10 +91,7 @@ impl Job {
 fn line_of(table: &[Node], node: u16) -> u16
     ensures { result ≡ line_of table.now node }
 {
-    usize::from(node)
-        .checked_sub(1)
-        .and_then(|index| table.get(index))
-        .map_or(0, |node| node.line)
+    item_at(table, node).map_or(0, |node| node.line)
 }
 
 impl From<RunVerdict> for Verdict {

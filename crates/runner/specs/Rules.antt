@@ -1,12 +1,12 @@
 -- The rules: what begins at each node, and what each frame does with what it is handed.
-use Rattle.std.specs.Prelude.{◌≡◌, ℕ, ◌-◌, if◌then◌else◌, not, ◌&&◌, ◌||◌, List, ◌∷◌, ◌++◌, pos, Some, None, Option, ◌==◌}
-use Rattle.std.specs.List.{slice_get}
+use Rattle.std.specs.Prelude.{◌≡◌, ℕ, if◌then◌else◌, not, ◌&&◌, ◌||◌, List, ◌∷◌, ◌++◌, pos, Some, None, Option, ◌==◌}
 use Rattle.std.specs.declared.ops.ControlFlow.{ControlFlow}
 use Rattle.std.specs.declared.ops.ControlFlow.TheVariants.{Continue, Break}
 use Rattle.numbers.specs.Shown.{shown}
 use Rattle.memories.specs.declared.value.Value.{Value}
 use Rattle.checker.specs.declared.node.Node.{Node}
 use Rattle.checker.specs.declared.note.Note.{Note}
+use Rattle.checker.specs.Tree.{item_at}
 use Rattle.runner.specs.declared.frame.Frame.{Frame}
 use Rattle.runner.specs.declared.frame.Frame.TheVariants.{InBlock, InStatement, InCall}
 use Rattle.runner.specs.declared.turn.Turn.{Turn}
@@ -80,10 +80,6 @@ flow_of (Hands g) s = again s.world g
 flow_of (Waits f n) s = awaits f n s
 flow_of (Prints n text) s = put n (shown text) s
 flow_of (Traps trap n) s = traps trap n s
-
--- a node or a note by its number, which counts from 1
-abbrev pub item_at : {X : Type 0} → List X → ℕ → Option X
-item_at xs n = if n == 0 then None else slice_get xs (n - 1)
 
 abbrev pub if_some : {X Y : Type 0} → Option X → (X → Y) → Y → Y
 if_some (Some x) k other = k x

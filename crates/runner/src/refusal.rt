@@ -6,7 +6,7 @@ ghost use Rattle.runner.specs.Refusals.{open_number, open_node, open_line, grant
 use checker::refusal::Refusal;
 
 // Why a session is not opened. Each case has a number that hosts know it by.
-#[derive(Clone, Copy)]
+#[derive(Clone, Copy, Debug, PartialEq, Eq)]
 pub enum OpenRefusal {
     // a question of the check
     Check(Refusal),

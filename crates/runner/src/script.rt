@@ -1,9 +1,10 @@
 // A script: nodes and notes by their number, which counts from 1.
 ghost use Rattle.std.specs.Prelude.{◌≡◌};
-ghost use Rattle.runner.specs.Rules.{item_at};
+ghost use Rattle.checker.specs.Tree.{item_at};
 
 use checker::node::Node;
 use checker::note::Note;
+use checker::table::item_at;
 
 // A table and the notes on it.
 #[derive(Clone, Copy)]
@@ -24,11 +25,4 @@ impl Script<'_> {
     {
         item_at(self.notes, number)
     }
-}
-
-fn item_at<T: Copy>(items: &[T], number: u16) -> Option<T>
-    ensures { result ≡ item_at items.now number }
-{
-    let place = (number as usize).checked_sub(1)?;
-    items.get(place).copied()
 }
