@@ -1,4 +1,5 @@
 // What the check notes of a node, in numbers that hosts read.
+// Notes lie beside the table, since hosts lend the places for them.
 #[derive(Clone, Copy, Debug, Default, PartialEq, Eq)]
 pub struct Note {
     // the type of an expression: 1 boolean, 2 int, 3 float, 7 a call without a value

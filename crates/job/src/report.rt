@@ -6,6 +6,7 @@ use std::alloc::{AllocError, Global};
 use std::fmt;
 
 // How a job stands. Each verdict has a number that hosts know it by.
+// Not the runner's verdict: a refused job has no session, and its value stands beside the verdict.
 #[derive(Clone, Copy, Debug, PartialEq, Eq)]
 pub enum Verdict {
     Running = 0,

@@ -65,7 +65,7 @@ impl Job {
         ensures { Plays (meant self.now.sheet) result session.new }
     {
         let mut notes = [Note::default(); 4096];
-        let mut shelf = Shelf { count: 0 };
+        let mut shelf = Shelf::default();
         let mut names = [Name::default(); 512];
         let table = self.sheet.table();
         let inputs = self.sheet.inputs();
@@ -87,7 +87,7 @@ impl Job {
     }
 }
 
-// The line of a node, 0 where there is none.
+// The line of a node, or 0, which hosts know as none.
 fn line_of(table: &[Node], node: u16) -> u16
     ensures { result ≡ line_of table.now node }
 {

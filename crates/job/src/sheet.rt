@@ -12,11 +12,10 @@ use crate::cut::{cut_first, fields};
 use arrayvec::ArrayVec;
 use checker::node::Node;
 use memories::Value;
+use runner::granting::STEPS;
 use std::num::TryFromIntError;
 
 const NEWLINE: u8 = b'\n';
-
-const MOST_STEPS: u64 = 1_099_511_627_776;
 
 // The questions that are asked of a sheet. Each has a number that hosts know it by.
 #[derive(Clone, Copy, Debug, PartialEq, Eq)]
@@ -191,7 +190,7 @@ fn read_first(line: &[u8]) -> Result<Sheet, SheetQuestion>
 {
     let [cells, steps] = fields::<2>(line, b'C').ok_or(SheetQuestion::FirstLine)?;
     match (cells, steps) {
-        (1..=0xffff, 1..=MOST_STEPS) => Ok(Sheet::new(cells as u16, steps)),
+        (1..=0xffff, 1..=STEPS) => Ok(Sheet::new(cells as u16, steps)),
         _ => Err(SheetQuestion::FirstLine),
     }
 }

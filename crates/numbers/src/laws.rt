@@ -31,7 +31,7 @@ pub fn nan_is_unlike_all()
 {}
 
 // -7 / 2, 16777219 as a float, and the text of 0.0625.
-#[derive(Clone, Copy)]
+#[derive(Clone, Copy, Debug, PartialEq, Eq)]
 pub struct Examples {
     pub quotient: Answer,
     pub turned: u32,

@@ -12,7 +12,7 @@ pub enum Ending {
     Newline,
 }
 
-#[derive(Clone, Copy)]
+#[derive(Clone, Copy, Debug, PartialEq, Eq)]
 pub struct Text {
     chars: ArrayString<16>,
 }

@@ -13,7 +13,7 @@ use memories::Memory;
 // The most steps of one grant.
 pub const GRANT: u32 = 1_000_000;
 // The most steps of a session, from one open to the next.
-const STEPS: u64 = 1_099_511_627_776;
+pub const STEPS: u64 = 1_099_511_627_776;
 
 // Takes as many steps as are granted, or those left until the script ends or traps; how many.
 pub fn advance<M: Memory>(

@@ -97,6 +97,6 @@ impl Machine {
 pub struct Course {
     pub machine: Machine,
     pub steps: u64,
-    // the node begun last
+    // the node begun last, or 0, which hosts know as none
     pub last: u16,
 }

@@ -1,7 +1,7 @@
 // Why a call is refused.
 ghost use Rattle.std.specs.Prelude.{◌≡◌};
 ghost use Rattle.runner.specs.declared.refusal.OpenRefusal.TheVariants.{Check};
-ghost use Rattle.runner.specs.Refusals.{open_number, open_node, open_line, grant_number};
+ghost use Rattle.runner.specs.Refusals.{open_number, of_check, open_node, open_line, grant_number};
 
 use checker::refusal::Refusal;
 
@@ -37,24 +37,28 @@ impl OpenRefusal {
         }
     }
 
+    // What the check refused, if it was the check.
+    fn of_check(self) -> Option<Refusal>
+        ensures { result ≡ of_check self }
+    {
+        match self {
+            OpenRefusal::Check(refusal) => Some(refusal),
+            OpenRefusal::CellLimit | OpenRefusal::Inputs => None,
+        }
+    }
+
     // The node that is refused, or 0, which hosts know as none.
     pub fn node(self) -> u16
         ensures { result ≡ open_node self }
     {
-        match self {
-            OpenRefusal::Check(refusal) => refusal.node,
-            OpenRefusal::CellLimit | OpenRefusal::Inputs => 0,
-        }
+        self.of_check().map_or(0, |refusal| refusal.node)
     }
 
     // The line of that node, or 0, which hosts know as none.
     pub fn line(self) -> u16
         ensures { result ≡ open_line self }
     {
-        match self {
-            OpenRefusal::Check(refusal) => refusal.line,
-            OpenRefusal::CellLimit | OpenRefusal::Inputs => 0,
-        }
+        self.of_check().map_or(0, |refusal| refusal.line)
     }
 }
 

@@ -7,7 +7,7 @@ use checker::note::Note;
 use checker::table::item_at;
 
 // A table and the notes on it.
-#[derive(Clone, Copy)]
+#[derive(Clone, Copy, Debug, PartialEq, Eq)]
 pub struct Script<'a> {
     pub table: &'a [Node],
     pub notes: &'a [Note],

@@ -44,7 +44,7 @@ impl Session {
         self.course.machine.verdict
     }
 
-    // The node of the trap, or else the one begun last; 0 before the first.
+    // The node of the trap, or else the one begun last; 0 before the first, which hosts know as none.
     pub fn place(&self) -> u16
         ensures { result ≡ place_of self.now.course.machine.verdict self.now.course.last }
     {

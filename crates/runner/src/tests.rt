@@ -95,8 +95,8 @@ fn another_table_has_no_rule(rt: HostRuntime) {
     assert_eq!(rt; session.place(), 3);
 }
 
-fn number(answer: Result<u32, GrantRefusal>) -> u8 {
-    answer.err().map_or(0, |refusal| refusal.number())
+fn number(answer: Result<u32, GrantRefusal>) -> Option<u8> {
+    answer.err().map(|refusal| refusal.number())
 }
 
 #[test]
@@ -108,15 +108,15 @@ fn grants_are_refused(rt: HostRuntime) {
     let mut new = Session::new();
     assert_eq!(rt;
         number(advance(&mut new, &table, &notes, &mut memory, 0)),
-        40
+        Some(40)
     );
     let mut session = opened(&rt, &table, &mut notes, &mut memory);
     assert_eq!(rt;
         number(advance(&mut session, &table, &notes, &mut memory, 1_000_001)),
-        41
+        Some(41)
     );
     assert_eq!(rt;
         number(advance(&mut session, &table, &notes, &mut memory, 1_000_000)),
-        0
+        None
     );
 }

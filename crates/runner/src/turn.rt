@@ -9,7 +9,7 @@ use numbers::Text;
 // What a node that is finished hands to the frame below: its value, or none where it is only done.
 pub type Signal = Option<Value>;
 
-#[derive(Clone, Copy)]
+#[derive(Clone, Copy, Debug, PartialEq, Eq)]
 pub enum Turn {
     // the frame below is handed something
     Hands(Signal),
