@@ -25,37 +25,6 @@ broken r f h = let p = err_from_is_err_and r h in p.1 ∙ ap Err p.2
 pub put_beyond : (t : List Node) (n : ℕ) (x : Note) (notes : List Note) → (n ≡ 0 → ⊥) → n ≤ length t → drop (length t) (put n x notes) ≡ drop (length t) notes
 put_beyond t n x notes nz w = drop-set-lt (length t) notes (n - 1) x (omega arith)
 
--- how a call is judged, once its arguments are typed
-judged : (scope : List Name) (n : ℕ) (d : Node) (out : Out (List Valued)) (x : Arguments) (notes : List Note) → after no_arguments out ≡ Ok (x, notes)
-    → then out (λ (p : List Valued × List Note). with_notes p.1 (call_of n d (means scope d.value) (length p.0) (first_unfit p.0)))
-    ≡ carries (call_of n d (means scope d.value) x.count x.unfit) notes
-judged scope n d (Ok p) x notes e =
-    rw (count_is, unfit_is, notes_are) (carried (call_of n d (means scope d.value) (length p.0) (first_unfit p.0)))
-  where
-    same : ◌≡◌ {A = Arguments × List Note} (x, notes) (record { count = 0 + length p.0; unfit = first_unfit p.0 }, p.1)
-    same = cc
-
-    count_is : x.count ≡ length p.0
-    count_is = ap (λ (q : Arguments × List Note). q.0.count) same ∙ zero-add (length p.0)
-
-    unfit_is : x.unfit ≡ first_unfit p.0
-    unfit_is = ap (λ (q : Arguments × List Note). q.0.unfit) same
-
-    notes_are : notes ≡ p.1
-    notes_are = ap (λ (q : Arguments × List Note). q.1) same
-
-    carried : (y : Result Ty Refusal) → with_notes p.1 y ≡ carries y p.1
-    carried (Ok ty) = refl
-    carried (Err f) = refl
-judged scope n d (Err f) x notes e = let z : ◌≡◌ {A = ℕ} 0 1 = cc in absurd (omega arith)
-
-pub call_judged : {t : List Node} {scope : List Name} {n : ℕ} {d : Node} {notes notes' : List Note} {x : Arguments} {r : Result Ty Refusal} → d.kind ≡ 25 → Gathers t scope d.a notes (Ok x) notes' → r ≡ call_of n d (means scope d.value) x.count x.unfit → Types t scope n d notes r notes'
-call_judged {t} {scope} {n} {d} {notes} {notes'} {x} {r} k h e =
-    rw e (record {
-      result = rw k (judged scope n d (values scope (tree t d.a) notes) x notes' h.result);
-      beyond = h.beyond;
-    })
-
 -- one argument more
 one_more : (s : Arguments) (x : Valued) (unfit : Option Valued) (out : Out (List Valued)) → unfit ≡ earlier s.unfit (cond (is_int x.ty) None (Some x))
     → after s (then out (λ (q : List Valued × List Note). Ok (x ∷ q.0, q.1))) ≡ after (record { count = s.count + 1; unfit = unfit }) out

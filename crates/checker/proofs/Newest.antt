@@ -5,15 +5,9 @@ use Rattle.std.proofs.lemmas.Bool.{cases_lt}
 use Rattle.checker.specs.Search.{newest_first}
 
 module _ {E : Type 0} where
-  -- the last of the places is the newest
-  pub newest_first_lem : (es : List E) (i : ℕ) (d : E) → i < length es → newest_first es (i + 1) ≡ get_or es i d ∷ newest_first es i
-  newest_first_lem es i d h = ap reverse (take_more es i d h) ∙ reverse-append (take i es) (get_or es i d ∷ [])
-
+  -- an entry put behind the others is the newest
   pub newest_set : (es : List E) (i : ℕ) (e : E) → i < length es → newest_first (set es i e) (i + 1) ≡ e ∷ newest_first es i
   newest_set es i e h = ap reverse (take_more_set es i e h) ∙ reverse-append (take i es) (e ∷ [])
-
-  pub length_newest : (es : List E) (i : ℕ) → i ≤ length es → length (newest_first es i) ≡ i
-  length_newest es i h = length-reverse (take i es) ∙ length-take-le i es h
 
   -- places past the last are none
   pub newest_min : (es : List E) (n : ℕ) → newest_first es n ≡ newest_first es (min n (length es))

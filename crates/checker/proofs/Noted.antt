@@ -16,11 +16,6 @@ filled (suc m) n [] e = absurd (omega arith)
 filled (suc m) zero (x ∷ notes) e = absurd (omega arith)
 filled (suc m) (suc n) (x ∷ notes) e = ap (λ (r : List Note). unnoted ∷ r) (filled m n notes (omega arith))
 
-pub length-cleared : (n : ℕ) (notes : List Note) → length (cleared n notes) ≡ length notes
-length-cleared zero notes = refl
-length-cleared (suc n) [] = refl
-length-cleared (suc n) (x ∷ notes) = ap suc (length-cleared n notes)
-
 pub cleared_beyond : (n : ℕ) (notes : List Note) → drop n (cleared n notes) ≡ drop n notes
 cleared_beyond zero notes = refl
 cleared_beyond (suc n) [] = refl

@@ -64,7 +64,6 @@ Whole t names count n d notes = function (newest_first names count) n d (tree t 
 -- A chain of declarations that began at first, and has come to now, which is on table t'.
 pub record Coming (t : List Node) (first : ℕ) (names : List Name) (count : ℕ) (notes : List Note) (t' : List Node) (now : ℕ) (names' : List Name) (count' : ℕ) (notes' : List Note) : Type 0 where
   pub table : t' ≡ t
-  pub room : count' ≤ 512
   pub long : length names' ≡ 512
   pub beyond : drop (length t) notes' ≡ drop (length t) notes
   pub rest : declarations (newest_first names count) (tree t first) notes ≡ declarations (newest_first names' count') (tree t now) notes'
@@ -75,24 +74,23 @@ module _ {t : List Node} {first : ℕ} {names : List Name} {count : ℕ} {notes 
 
   pub declarations_refused : {names₂ : List Name} {count₂ : ℕ} {notes₂ : List Note} {r : Result (Unit {0}) Refusal} {f : Refusal} → Declares t (Whole t names₁ count₁ n d notes₁) notes₁ (Err f) names₂ count₂ notes₂ → r ≡ Err f → Declares t (declarations (newest_first names count) (tree t first) notes) notes r names₂ count₂ notes₂
   declarations_refused h e =
-      rw e (record { result = at_function ∙ rw h.result refl; beyond = h.beyond ∙ coming.beyond; room = λ x. absurd (false≢true x) })
+      rw e (record { result = at_function ∙ rw h.result refl; beyond = h.beyond ∙ coming.beyond })
 
   pub declarations_on : {names₂ : List Name} {count₂ : ℕ} {notes₂ : List Note} {u : Unit {0}} → Declares t (Whole t names₁ count₁ n d notes₁) notes₁ (Ok u) names₂ count₂ notes₂ → length names₂ ≡ 512 → Coming t first names count notes t' n' names₂ count₂ notes₂
   declarations_on h long =
       record {
         table = came.table;
-        room = h.room refl;
         long = long;
         beyond = h.beyond ∙ coming.beyond;
         rest = at_function ∙ rw (h.result, came.on) refl;
       }
 
-pub declarations_begun : {t : List Node} (first : ℕ) {names : List Name} {count : ℕ} {notes : List Note} → count ≤ 512 → length names ≡ 512 → Coming t first names count notes t first names count notes
-declarations_begun first room long = record { table = refl; room = room; long = long; beyond = refl; rest = refl }
+pub declarations_begun : {t : List Node} (first : ℕ) {names : List Name} {count : ℕ} {notes : List Note} → length names ≡ 512 → Coming t first names count notes t first names count notes
+declarations_begun first long = record { table = refl; long = long; beyond = refl; rest = refl }
 
 pub declarations_done : {t : List Node} {first : ℕ} {names : List Name} {count : ℕ} {notes : List Note} {n : ℕ} {names₁ : List Name} {count₁ : ℕ} {notes₁ : List Note} {t' : List Node} → Coming t first names count notes t' n names₁ count₁ notes₁ → item_at t n ≡ None → Declares t (declarations (newest_first names count) (tree t first) notes) notes (Ok tt) names₁ count₁ notes₁
 declarations_done {t} {first} {names} {count} {notes} {n} coming z =
-    record { result = coming.rest ∙ rw (tree_out t n z) refl; beyond = coming.beyond; room = λ _. coming.room }
+    record { result = coming.rest ∙ rw (tree_out t n z) refl; beyond = coming.beyond }
 
 -- an empty expression statement
 pub empty_statement : {t : List Node} (names : List Name) (count n : ℕ) (d : Node) {notes : List Note} → d.kind ≡ 18 → d.a ≡ 0 → Walks t (One t names count n d notes) count notes (Ok tt) count notes

@@ -49,7 +49,7 @@ abbrev pub arguments_fit : Option Valued → Result Ty Refusal
 arguments_fit None = Ok Void
 arguments_fit (Some x) = refuse WantedType x.node x.line
 
--- what the arguments of a call come to, after some that came before them
+-- the first of two that is there
 abbrev pub earlier : Option Valued → Option Valued → Option Valued
 earlier (Some x) y = Some x
 earlier None y = y
@@ -57,6 +57,7 @@ earlier None y = y
 abbrev pub no_arguments : Arguments
 no_arguments = record { count = 0; unfit = None }
 
+-- what the arguments of a call come to, after some that came before them
 abbrev pub after : Arguments → Out (List Valued) → Out Arguments
 after s (Ok p) = Ok (record { count = s.count + length p.0; unfit = earlier s.unfit (first_unfit p.0) }, p.1)
 after s (Err e) = Err e

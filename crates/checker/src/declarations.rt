@@ -9,10 +9,8 @@ use crate::note::Note;
 use crate::refusal::{Question, Refusal};
 use crate::script::{Place, Script};
 use crate::search::newest;
-use crate::shelf::{Mark, Name, SHELF_PLACES, Shelf};
+use crate::shelf::{MAIN, Mark, Name, SHELF_PLACES, Shelf};
 use crate::statements::walk_statements;
-
-const MAIN: u32 = 10;
 
 const BUILT_INS: usize = 9;
 
@@ -30,7 +28,6 @@ fn enter_built_ins(names: &mut [Name; 512])
 
 // A function is judged, then entered.
 fn enter_function(place: Place, shelf: &mut Shelf, names: &mut [Name; 512]) -> Result<(), Refusal>
-    requires { shelf.old.count ≤ 512 }
     ensures { Enters (enter (newest_first names.old shelf.old.count) place.entry.number place.entry.node) result names.new shelf.new.count }
 {
     let count = shelf.count;
@@ -60,8 +57,7 @@ fn walk_function(
     names: &mut [Name; 512],
     notes: &mut [Note],
 ) -> Result<(), Refusal>
-    requires noted { length place.script.nodes.now ≤ length notes.old }
-    requires room { shelf.old.count ≤ 512 }
+    requires { length place.script.nodes.now ≤ length notes.old }
     ensures { Declares place.entry.script.nodes.now (function (newest_first names.old shelf.old.count) place.entry.number place.entry.node (tree place.entry.script.nodes.now place.entry.node.b) notes.old) notes.old result names.new shelf.new.count notes.new }
 {
     enter_function(place, shelf, names)?;
@@ -78,8 +74,7 @@ fn walk_declarations(
     names: &mut [Name; 512],
     notes: &mut [Note],
 ) -> Result<(), Refusal>
-    requires noted { length script.nodes.now ≤ length notes.old }
-    requires room { shelf.old.count ≤ 512 }
+    requires { length script.nodes.now ≤ length notes.old }
     ensures { Declares script.entry.nodes.now (declarations (newest_first names.old shelf.old.count) (tree script.entry.nodes.now first) notes.old) notes.old result names.new shelf.new.count notes.new }
 {
     for (number, node) in script.chain(first) {

@@ -1,7 +1,6 @@
 // The walk through expressions: each gets its type and its note.
 ghost use Rattle.std.specs.Prelude.{◌≡◌, ◌≤◌, length, if◌then◌else◌, Some, None};
 ghost use Rattle.checker.specs.Search.{newest_first};
-ghost use Rattle.checker.specs.Scope.{means};
 ghost use Rattle.checker.specs.Typing.{note_of, parameters, is_int, earlier, arguments_fit, call_of, Types, Gathers};
 
 use crate::note::Note;
@@ -41,11 +40,7 @@ fn is_int(ty: Ty) -> bool
 fn first_unfit(before: Option<Valued>, argument: Valued) -> Option<Valued>
     ensures { result ≡ earlier before (if is_int argument.ty then None else Some argument) }
 {
-    match before {
-        Some(unfit) => Some(unfit),
-        None if is_int(argument.ty) => None,
-        None => Some(argument),
-    }
+    before.or((!is_int(argument.ty)).then_some(argument))
 }
 
 // A call is judged once its arguments have their types.
@@ -92,7 +87,7 @@ fn type_expression(
     }
 }
 
-// A chain of expressions, one after the other.
+// A chain of expressions, one after the other. Names come with their count, as the shelf lends them.
 #[cycle(typing)]
 pub(crate) fn type_chain(
     script: Script,

@@ -1,6 +1,6 @@
 // The questions about the whole table: its size, the form of each node, that
 // each is linked once, and that none is too deep.
-ghost use Rattle.std.specs.Prelude.{◌≡◌, ◌≤◌, ℕ, Bool, length, Ok, Err, IfOk, MatchResult};
+ghost use Rattle.std.specs.Prelude.{◌≡◌, ◌≤◌, ℕ, Bool, Ok, Err, IfOk, MatchResult};
 ghost use Rattle.checker.specs.declared.node.Node.{Node};
 ghost use Rattle.checker.specs.Tree.{blank, tree};
 ghost use Rattle.checker.specs.Form.{chain_fits, one_fits, child_fits, shape_fits, node_fits, ask_each, hit, times_linked, linked_once, lower, lowest_deep, shallow, ask_size, formed};
@@ -30,10 +30,7 @@ fn chain_fits(table: &[Node], class: Class, first: u16) -> bool
 fn one_fits(table: &[Node], class: Class, link: u16) -> bool
     ensures { result ≡ one_fits table.now class link }
 {
-    match item_at(table, link) {
-        Some(node) => is_of_class(class, node.kind) && node.next == 0,
-        None => false,
-    }
+    item_at(table, link).is_some_and(|node| is_of_class(class, node.kind) && node.next == 0)
 }
 
 fn child_fits(table: &[Node], child: Child, link: u16) -> bool
@@ -100,7 +97,7 @@ fn ask_form(table: Table) -> Result<(), Refusal>
 fn hits(number: u16, link: u16) -> usize
     ensures { result ≡ hit number link }
 {
-    if link == number { 1 } else { 0 }
+    usize::from(link == number)
 }
 
 fn times_linked(table: Table, number: u16) -> usize

@@ -7,7 +7,7 @@ use crate::node::Node;
 use crate::refusal::{Question, Refusal};
 
 // A table of 1 to 4,096 nodes.
-#[derive(Clone, Copy, Debug)]
+#[derive(Clone, Copy, Debug, PartialEq, Eq)]
 pub(crate) struct Table<'a> {
     pub(crate) nodes: &'a [Node],
     ghost some: { 1 ≤ length nodes.now },
@@ -15,7 +15,7 @@ pub(crate) struct Table<'a> {
 }
 
 // A table whose links go up and stay inside.
-#[derive(Clone, Copy, Debug)]
+#[derive(Clone, Copy, Debug, PartialEq, Eq)]
 pub(crate) struct Script<'a> {
     pub(crate) nodes: &'a [Node],
     ghost some: { 1 ≤ length nodes.now },
@@ -23,7 +23,7 @@ pub(crate) struct Script<'a> {
 }
 
 // A node of a script, with its number.
-#[derive(Clone, Copy, Debug)]
+#[derive(Clone, Copy, Debug, PartialEq, Eq)]
 pub(crate) struct Place<'a> {
     pub(crate) script: Script<'a>,
     pub(crate) number: u16,

@@ -4,6 +4,7 @@ ghost use Rattle.checker.specs.Chain.{link_fits};
 ghost use Rattle.checker.specs.Form.{of_class, plain, shape_of, type_fits, content_fits, links_fit, root_fits};
 
 use crate::node::Node;
+use crate::shelf::MAIN;
 
 // What may stand at a child's place.
 #[derive(Clone, Copy, Debug, PartialEq, Eq)]
@@ -67,7 +68,7 @@ fn untyped(content: Content, a: Child, b: Child) -> Shape
     }
 }
 
-// The form that a kind has; `None` where it is no kind.
+// The form that a kind has; `None` where it is no kind. Kinds are told by number, as tables write them.
 pub(crate) fn shape_of(kind: u8) -> Option<Shape>
     ensures { result ≡ shape_of kind }
 {
@@ -115,7 +116,7 @@ pub(crate) fn content_fits(content: Content, value: u32) -> bool
 {
     match content {
         Content::Nothing => value == 0,
-        Content::MainName => value == 10,
+        Content::MainName => value == MAIN,
         Content::CalledName => matches!(value, 2 | 3 | 9 | 10 | 16..=255),
         Content::IntLiteral => value <= 2_147_483_647,
     }

@@ -9,10 +9,13 @@ use crate::search::Keyed;
 
 pub const SHELF_PLACES: usize = 512;
 
+// The name of main.
+pub const MAIN: u32 = 10;
+
 #[derive(Clone, Copy, Debug, Default, PartialEq, Eq)]
 pub struct Name {
     pub name: u32,
-    // the node that declares it; 0 for a built-in, as hosts read it
+    // the node that declares it; 0 for a built-in, as in the note of a node that uses it
     pub declaration: u16,
 }
 

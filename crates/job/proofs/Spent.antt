@@ -28,9 +28,6 @@ module _ (t : List Node) (notes : List Note) (steps : ℕ) (s₀ : State) (left 
       let b : leb (s.steps + grant) 1_099_511_627_776 ≡ true = le-leb _ _ (omega (arith, spending.few)) in
       rw (spending.open_still, a, b) refl
 
-  pub never_refused : (e : GrantRefusal) → Err e ≡ grant_answer t notes opened grant s → ⊥
-  never_refused e r = let x = r ∙ accepted in cc
-
   took : (taken : ℕ) → Ok taken ≡ grant_answer t notes opened grant s → taken ≡ steps_taken t notes grant s
   took taken r = let x = r ∙ accepted in cc
 
@@ -61,8 +58,3 @@ module _ (t : List Node) (notes : List Note) (steps : ℕ) (s₀ : State) (left 
       go : (running (ran t notes grant s) ≡ true) ⊎ (running (ran t notes grant s) ≡ false) → s' ≡ ran t notes steps s₀
       go (inl runs) = absurd (fewer (let k = took taken r in let c = ran_counts t notes grant s runs in omega arith))
       go (inr stopped) = e ∙ sym (ran_past t notes grant left s stopped (omega arith)) ∙ rest
-
-pub spent_all : (t : List Node) (notes : List Note) (steps : ℕ) (s₀ : State) (left : ℕ) (opened : Bool) (s : State) → Spending t notes steps s₀ left opened s → left ≤ 0 → s ≡ ran t notes steps s₀
-spent_all t notes steps s₀ left opened s spending none =
-    let all : steps - left ≡ steps = omega arith in
-    spending.shown ∙ ap (λ (n : ℕ). ran t notes n s₀) all

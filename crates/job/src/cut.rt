@@ -23,6 +23,7 @@ fn first_mark(bytes: &[u8], mark: u8) -> Option<usize>
     bytes.iter().position(|byte| *byte == mark)
 }
 
+// Not `split`, which does not say whether a mark follows a piece: a line is a piece that a newline ends.
 pub(crate) fn cut_first<'a>(bytes: &'a [u8], mark: u8) -> Cut<'a>
     ensures pieces { cut mark bytes.now ≡ result.piece.now ∷ further mark result.rest }
     ensures shorter { rest_length result.rest < length bytes.now + 1 }

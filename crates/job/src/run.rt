@@ -36,7 +36,7 @@ fn spend<M: Memory>(
     requires few { session.old.course.steps + steps ≤ 1_099_511_627_776 }
     ensures { seen session.new (M.Memory.cells memory.new) ≡ ran table.now notes.now steps (seen session.old (M.Memory.cells memory.old)) }
 {
-    // What is left shrinks by two sizes of grant, and a stop ends it early: no range counts so.
+    // A `while`: the last grant is smaller, and a stop ends it early.
     let mut left = steps;
     while left > 0 {
         let grant = left.min(GRANT as u64) as u32;
@@ -51,7 +51,7 @@ fn spend<M: Memory>(
 }
 
 // A sheet that was read, so that its steps are within the limit of a session.
-#[derive(Drop)]
+#[derive(Debug, Drop, Eq, PartialEq)]
 struct Job {
     sheet: Sheet,
     ghost few: { sheet.steps ≤ 1_099_511_627_776 },

@@ -45,7 +45,7 @@ pub struct SheetRefusal {
     pub line: u32,
 }
 
-#[derive(Drop)]
+#[derive(Debug, Drop, Eq, PartialEq)]
 pub struct Sheet {
     pub cells: u16,
     pub steps: u64,

@@ -9,7 +9,7 @@ use crate::memory::Memory;
 use crate::typed::{is_type, seen};
 use crate::value::Value;
 
-#[derive(Drop)]
+#[derive(Debug, Drop)]
 pub struct CellBytes<'a> {
     bytes: &'a mut [u8],
 }

@@ -15,7 +15,7 @@ pub trait Memory {
         ensures { result ≡ slice_index_or (cells self.now) cell None };
 
     // Says no outside and at a type that is none, and then leaves all as it is.
-    // A boolean, as a set's `insert` answers, since there is nothing more to tell of a no.
+    // A boolean, as a set's `insert` answers: users of a memory are promised no more than the no.
     fn write(&mut self, cell: usize, value: Value) -> bool
         ensures says { result ≡ writable (cells self.old) cell value.ty }
         ensures after { cells self.new ≡ (if result then slice_set (cells self.old) cell (Some value) else cells self.old) };

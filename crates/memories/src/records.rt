@@ -8,7 +8,7 @@ use crate::typed::{is_type, seen};
 use crate::value::Value;
 
 // Not one type with `CellBytes`: a trait for their places would be longer than the three lines that the two share.
-#[derive(Drop)]
+#[derive(Debug, Drop)]
 pub struct CellRecords<'a> {
     records: &'a mut [Value],
 }

@@ -6,7 +6,7 @@ ghost use Rattle.memories.specs.Typed.{window_typed};
 use crate::memory::Memory;
 use crate::value::Value;
 
-#[derive(Drop)]
+#[derive(Debug, Drop)]
 pub struct Window<M: Memory> {
     memory: M,
     shift: usize,

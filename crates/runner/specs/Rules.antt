@@ -74,7 +74,7 @@ put n text s =
     if output_fits s.world.output text then again (printed text s.world) None
     else traps OutputFull n s
 
--- what the end of a rule, as the code hands it on, comes to
+-- what a turn comes to
 abbrev pub flow_of : Turn → Core → Flow
 flow_of (Hands g) s = again s.world g
 flow_of (Waits f n) s = awaits f n s

@@ -1,4 +1,4 @@
-// What begins at a node, by its kind.
+// What begins at a node, by its kind; kinds and names are told by number, as tables write them.
 ghost use Rattle.std.specs.Prelude.{◌≡◌};
 ghost use Rattle.runner.specs.State.{Core, core_of};
 ghost use Rattle.runner.specs.Rules.{Follows, flow_of, begins, begin_at, begin_node, begin_put};

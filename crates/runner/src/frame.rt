@@ -11,7 +11,7 @@ pub enum Frame {
     InCall { call: u16 },
 }
 
-// What stands in the places of a stack that hold no frame. By hand, since a derive takes a case without fields.
+// What stands in the places of a stack that hold no frame. By hand: a default is derived of a case without fields alone, and each case here has some.
 impl Default for Frame {
     fn default() -> Frame {
         Frame::InStatement { statement: 0 }

@@ -15,6 +15,7 @@ pub const GRANT: u32 = 1_000_000;
 // The most steps of a session, from one open to the next.
 pub const STEPS: u64 = 1_099_511_627_776;
 
+// Hosts lend table, notes and memory apart, and keep them between calls.
 // Takes as many steps as are granted, or those left until the script ends or traps; how many.
 pub fn advance<M: Memory>(
     session: &mut Session,

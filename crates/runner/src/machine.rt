@@ -10,7 +10,7 @@ use numbers::Text;
 use std::ops::ControlFlow;
 
 // What a rule may change, but the cells.
-#[derive(Drop)]
+#[derive(Debug, Drop, Eq, PartialEq)]
 pub struct Machine {
     pub frames: ArrayVec<Frame, 1024>,
     // the node to begin next; until another is known, the one begun last
@@ -19,6 +19,7 @@ pub struct Machine {
     pub output: ArrayVec<u8, 4096>,
     // how many inputs are taken
     pub taken: usize,
+    // so that a frame fits once one was taken off
     ghost fits: { length frames.items ≤ 1024 },
 }
 
@@ -93,7 +94,7 @@ impl Machine {
 }
 
 // What a step may change, but the cells.
-#[derive(Default, Drop)]
+#[derive(Debug, Default, Drop, Eq, PartialEq)]
 pub struct Course {
     pub machine: Machine,
     pub steps: u64,

@@ -1,7 +1,6 @@
 // Opens a session on a script.
 ghost use Rattle.std.specs.Prelude.{◌≡◌, ◌≤◌, length, take, drop, replicate, None, Ok, Err, OnErr, MatchResult};
 ghost use Rattle.std.specs.List.{find};
-ghost use Rattle.checker.specs.Notes.{cleared};
 ghost use Rattle.runner.specs.Given.{given};
 ghost use Rattle.runner.specs.Calls.{asked, is_main, main_body, limit_fits, AtStart, Opened};
 
@@ -11,7 +10,7 @@ use crate::refusal::OpenRefusal;
 use crate::session::{OpenedWith, Session};
 use checker::node::Node;
 use checker::note::Note;
-use checker::shelf::{Name, Shelf};
+use checker::shelf::{MAIN, Name, Shelf};
 use checker::{check_table, clear_notes};
 use memories::{Memory, Value};
 
@@ -21,14 +20,14 @@ const CELLS: usize = 65_535;
 fn limit_fits(limit: usize, size: usize) -> bool
     ensures { result ≡ limit_fits limit size }
 {
-    limit >= 1 && limit <= CELLS && limit <= size
+    (1..=CELLS).contains(&limit) && limit <= size
 }
 
 // Is it the function of the name 10?
 fn is_main(node: Node) -> bool
     ensures { result ≡ is_main node }
 {
-    node.kind == 2 && node.value == 10
+    node.kind == 2 && node.value == MAIN
 }
 
 // The first main.

@@ -30,7 +30,7 @@ impl OpenRefusal {
         ensures { result ≡ open_number self }
     {
         match self {
-            // the check's own numbers, so no cast of this enum has them
+            // by cases: a refusal of the check has the check's own number
             OpenRefusal::Check(refusal) => refusal.question.number(),
             OpenRefusal::CellLimit => 31,
             OpenRefusal::Inputs => 32,

@@ -9,14 +9,14 @@ use crate::machine::Course;
 use crate::verdict::Verdict;
 
 // What a session was opened with.
-#[derive(Drop)]
+#[derive(Debug, Drop, Eq, PartialEq)]
 pub(crate) struct OpenedWith {
     // the script has the cells below this one
     pub(crate) limit: usize,
     pub(crate) inputs: Inputs,
 }
 
-#[derive(Default, Drop)]
+#[derive(Debug, Default, Drop, Eq, PartialEq)]
 pub struct Session {
     pub(crate) course: Course,
     // nothing for a session that is not open
