@@ -1,5 +1,5 @@
 -- What each way through the expressions' functions answers, over plain values.
-use Rattle.std.proofs.Common.{◌≡◌, ℕ, suc, ◌+◌, ◌-◌, ◌≤◌, Bool, true, false, cond, List, ◌∷◌, length, drop, set, IsErrAnd, Some, None, Ok, Err, Option, Result, refl, ap, ◌∙◌, add-zero, zero-add, arith}
+use Rattle.std.proofs.Common.{◌≡◌, ℕ, suc, ◌+◌, ◌-◌, ◌≤◌, Bool, true, false, cond, List, ◌∷◌, length, drop, set, IsErrAnd, Some, None, Ok, Err, Option, Result, refl, ap, ◌∙◌, add-zero, arith}
 use Rattle.std.proofs.lemmas.List.{drop-set-lt}
 use Rattle.std.proofs.lemmas.Result.{err_from_is_err_and}
 use Rattle.checker.specs.declared.node.Node.{Node}
@@ -11,9 +11,8 @@ use Rattle.checker.specs.declared.types.Valued.{Valued}
 use Rattle.checker.specs.declared.types.Arguments.{Arguments}
 use Rattle.checker.specs.Questions.{then}
 use Rattle.checker.specs.Notes.{put}
-use Rattle.checker.specs.Scope.{means}
 use Rattle.checker.specs.Tree.{tree, item_at, Linked, left}
-use Rattle.checker.specs.Typing.{Out, note_of, is_int, valued, first_unfit, earlier, no_arguments, after, call_of, with_notes, type_at, values, carries, Types, Gathers}
+use Rattle.checker.specs.Typing.{Out, note_of, is_int, valued, first_unfit, earlier, no_arguments, after, type_at, values, Types, Gathers}
 use Rattle.checker.proofs.Chains.{Came}
 use Rattle.checker.proofs.Trees.{tree_here, tree_out, less_next, left_within}
 

@@ -1,6 +1,5 @@
 -- What each way through the statements and declarations answers, over plain values.
 use Rattle.std.proofs.Common.{◌≡◌, ℕ, ◌+◌, ◌<◌, ◌≤◌, List, ◌∷◌, length, drop, set, None, Ok, Err, Result, refl, ap, ◌∙◌, add-one, arith}
-use Rattle.std.proofs.lemmas.Bool.{false≢true}
 use Rattle.checker.specs.declared.node.Node.{Node}
 use Rattle.checker.specs.declared.note.Note.{Note}
 use Rattle.checker.specs.declared.refusal.Refusal.{Refusal}
@@ -84,9 +83,6 @@ module _ {t : List Node} {first : ℕ} {names : List Name} {count : ℕ} {notes 
         beyond = h.beyond ∙ coming.beyond;
         rest = at_function ∙ rw (h.result, came.on) refl;
       }
-
-pub declarations_begun : {t : List Node} (first : ℕ) {names : List Name} {count : ℕ} {notes : List Note} → length names ≡ 512 → Coming t first names count notes t first names count notes
-declarations_begun first long = record { table = refl; long = long; beyond = refl; rest = refl }
 
 pub declarations_done : {t : List Node} {first : ℕ} {names : List Name} {count : ℕ} {notes : List Note} {n : ℕ} {names₁ : List Name} {count₁ : ℕ} {notes₁ : List Note} {t' : List Node} → Coming t first names count notes t' n names₁ count₁ notes₁ → item_at t n ≡ None → Declares t (declarations (newest_first names count) (tree t first) notes) notes (Ok tt) names₁ count₁ notes₁
 declarations_done {t} {first} {names} {count} {notes} {n} coming z =

@@ -1,11 +1,7 @@
 use Rattle.std.proofs.Common.{◌≡◌, length, take, reverse, refl, ap, ◌∙◌, arith}
 use Rattle.std.proofs.lemmas.List.{length-take-le, take-append-le}
 use Rattle.checker.specs.Search.{newest_first}
-use Rattle.checker.proofs.Walking.{one_more}
 use Rattle.checker.proofs.declarations.enter_built_ins.Goals as goal
-
-pub loop-i-preserved : goal.loop-i-preserved
-loop-i-preserved c = one_more c.loop-i.place-items c.loop-i.i (omega arith) c.loop-i.invariant
 
 pub returns : goal.returns
 returns c =

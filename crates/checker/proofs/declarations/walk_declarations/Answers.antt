@@ -1,11 +1,7 @@
 use Rattle.checker.proofs.Chains.{came, none_came}
 use Rattle.checker.proofs.Exprs.{broken}
-use Rattle.checker.proofs.Walking.{declarations_begun, declarations_refused, declarations_on, declarations_done}
+use Rattle.checker.proofs.Walking.{declarations_refused, declarations_on, declarations_done}
 use Rattle.checker.proofs.declarations.walk_declarations.Goals as goal
-
-pub loop-number-init : goal.loop-number-init
-loop-number-init c =
-    (tt, tt, rw (c.into_iter-number-iterator.ensures.into_iter_gives, c.chain-number-items.ensures.table, c.chain-number-items.ensures.first) (declarations_begun c.args.first c.told-names))
 
 pub returns-in_err-walk_function : goal.returns-in_err-walk_function
 returns-in_err-walk_function c =
