@@ -12,7 +12,7 @@ use crate::node::Node;
 use crate::note::Note;
 use crate::refusal::Refusal;
 use crate::script::Table;
-use crate::shelf::{Name, Shelf};
+use crate::shelf::{Name, SHELF_PLACES, Shelf};
 
 // Takes the first `count` notes back, or as many as there are.
 pub fn clear_notes(notes: &mut [Note], count: usize)
@@ -28,7 +28,7 @@ fn judge_table(
     table: Table,
     notes: &mut [Note],
     shelf: &mut Shelf,
-    names: &mut [Name; 512],
+    names: &mut [Name; SHELF_PLACES],
 ) -> Result<(), Refusal>
     requires { length table.nodes.now ≤ length notes.old }
     ensures result { then (formed table.entry.nodes.now) (λ _. program table.entry.nodes.now (cleared (length table.entry.nodes.now) notes.old)) ≡ leaves result notes.new }
@@ -45,7 +45,7 @@ pub fn check_table(
     table: &[Node],
     notes: &mut [Note],
     shelf: &mut Shelf,
-    names: &mut [Name; 512],
+    names: &mut [Name; SHELF_PLACES],
 ) -> Result<(), Refusal>
     ensures { Checked table.now notes.old result notes.new shelf.new.count }
 {

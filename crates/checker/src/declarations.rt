@@ -15,7 +15,7 @@ use crate::statements::walk_statements;
 const BUILT_INS: usize = 9;
 
 // Puts the names that every script has on an empty shelf.
-fn enter_built_ins(names: &mut [Name; 512])
+fn enter_built_ins(names: &mut [Name; SHELF_PLACES])
     ensures { newest_first names.new 9 ≡ built_ins 9 }
 {
     for (i, place) in names[..BUILT_INS].iter_mut().enumerate() {
@@ -27,7 +27,11 @@ fn enter_built_ins(names: &mut [Name; 512])
 }
 
 // A function is judged, then entered.
-fn enter_function(place: Place, shelf: &mut Shelf, names: &mut [Name; 512]) -> Result<(), Refusal>
+fn enter_function(
+    place: Place,
+    shelf: &mut Shelf,
+    names: &mut [Name; SHELF_PLACES],
+) -> Result<(), Refusal>
     ensures { Enters (enter (newest_first names.old shelf.old.count) place.entry.number place.entry.node) result names.new shelf.new.count }
 {
     let count = shelf.count;
@@ -54,7 +58,7 @@ fn enter_function(place: Place, shelf: &mut Shelf, names: &mut [Name; 512]) -> R
 fn walk_function(
     place: Place,
     shelf: &mut Shelf,
-    names: &mut [Name; 512],
+    names: &mut [Name; SHELF_PLACES],
     notes: &mut [Note],
 ) -> Result<(), Refusal>
     requires { length place.script.nodes.now ≤ length notes.old }
@@ -71,7 +75,7 @@ fn walk_declarations(
     script: Script,
     first: u16,
     shelf: &mut Shelf,
-    names: &mut [Name; 512],
+    names: &mut [Name; SHELF_PLACES],
     notes: &mut [Note],
 ) -> Result<(), Refusal>
     requires { length script.nodes.now ≤ length notes.old }
@@ -92,7 +96,7 @@ fn walk_declarations(
 pub(crate) fn walk_program(
     script: Script,
     shelf: &mut Shelf,
-    names: &mut [Name; 512],
+    names: &mut [Name; SHELF_PLACES],
     notes: &mut [Note],
 ) -> Result<(), Refusal>
     requires { length script.nodes.now ≤ length notes.old }

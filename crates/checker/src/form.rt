@@ -6,7 +6,7 @@ ghost use Rattle.checker.specs.Tree.{blank, tree};
 ghost use Rattle.checker.specs.Form.{chain_fits, one_fits, child_fits, shape_fits, node_fits, ask_each, hit, times_linked, linked_once, lower, lowest_deep, shallow, ask_size, formed};
 
 use crate::chain::Chain;
-use crate::node::Node;
+use crate::node::{MOST_NODES, Node};
 use crate::refusal::{Question, Refusal};
 use crate::script::{Script, Table};
 use crate::shape::{
@@ -16,8 +16,6 @@ use crate::shape::{
 use crate::table::item_at;
 
 const DEEPEST: u8 = 200;
-
-const MOST_NODES: usize = 4096;
 
 // Is every item of the chain of this class, as far as the links between them
 // are right? A wrong link is its own node's fault.

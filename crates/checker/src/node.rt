@@ -1,3 +1,6 @@
+// The most nodes of a table.
+pub const MOST_NODES: usize = 4096;
+
 // One node of a script's table.
 //
 // Nodes are numbered from 1. `a`, `b` and `c` name children and `next` the

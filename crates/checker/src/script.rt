@@ -22,7 +22,8 @@ pub(crate) struct Script<'a> {
     ghost linked: { Linked nodes.now },
 }
 
-// A node of a script, with its number.
+// A node of a script, with its number. Each walk makes its own of what a chain hands it, since
+// chains also run over tables that are no script yet.
 #[derive(Clone, Copy, Debug, PartialEq, Eq)]
 pub(crate) struct Place<'a> {
     pub(crate) script: Script<'a>,

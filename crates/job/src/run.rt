@@ -9,9 +9,9 @@ ghost use Rattle.job.specs.Jobs.{line_of, head_of, verdict_of, told, Plays, repo
 use crate::fault::Fault;
 use crate::report::{Headline, Verdict, print};
 use crate::sheet::{Sheet, read_sheet};
-use checker::node::Node;
+use checker::node::{MOST_NODES, Node};
 use checker::note::Note;
-use checker::shelf::{Name, Shelf};
+use checker::shelf::{Name, SHELF_PLACES, Shelf};
 use checker::table::item_at;
 use memories::{CellRecords, Memory, Value, Window};
 use runner::granting::GRANT;
@@ -64,9 +64,9 @@ impl Job {
         requires { length (M.Memory.cells memory.old) ≡ 4096 }
         ensures { Plays (meant self.now.sheet) result session.new }
     {
-        let mut notes = [Note::default(); 4096];
+        let mut notes = [Note::default(); MOST_NODES];
         let mut shelf = Shelf::default();
-        let mut names = [Name::default(); 512];
+        let mut names = [Name::default(); SHELF_PLACES];
         let table = self.sheet.table();
         let inputs = self.sheet.inputs();
         let limit = self.sheet.cells as usize;

@@ -10,8 +10,9 @@ ghost use Rattle.job.specs.Writing.{ReadsBack};
 
 use crate::cut::{cut_first, fields};
 use arrayvec::ArrayVec;
-use checker::node::Node;
+use checker::node::{MOST_NODES, Node};
 use memories::Value;
+use runner::MOST_INPUTS;
 use runner::granting::STEPS;
 use std::num::TryFromIntError;
 
@@ -49,8 +50,8 @@ pub struct SheetRefusal {
 pub struct Sheet {
     pub cells: u16,
     pub steps: u64,
-    inputs: ArrayVec<Value, 64>,
-    table: ArrayVec<Node, 4096>,
+    inputs: ArrayVec<Value, MOST_INPUTS>,
+    table: ArrayVec<Node, MOST_NODES>,
 }
 
 // A number that does not fit its field's type is too wide.

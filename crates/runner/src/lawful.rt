@@ -5,8 +5,11 @@ ghost use Rattle.runner.specs.Given.{lawful_float, lawful, all_lawful, acceptabl
 use arrayvec::ArrayVec;
 use memories::Value;
 
-// The inputs that a script is opened with: at most 64.
-pub type Inputs = ArrayVec<Value, 64>;
+// The most inputs of a script.
+pub const MOST_INPUTS: usize = 64;
+
+// The inputs that a script is opened with.
+pub type Inputs = ArrayVec<Value, MOST_INPUTS>;
 
 // There is one NaN.
 #[tactic(auto, using(crate::proofs::Floats::nan_lawful))]

@@ -19,4 +19,5 @@ mod turn;
 pub mod verdict;
 
 pub use granting::advance;
+pub use lawful::MOST_INPUTS;
 pub use opening::open;

@@ -10,7 +10,7 @@ use crate::refusal::OpenRefusal;
 use crate::session::{OpenedWith, Session};
 use checker::node::Node;
 use checker::note::Note;
-use checker::shelf::{MAIN, Name, Shelf};
+use checker::shelf::{MAIN, Name, SHELF_PLACES, Shelf};
 use checker::{check_table, clear_notes};
 use memories::{Memory, Value};
 
@@ -82,7 +82,7 @@ pub fn open<M: Memory>(
     table: &[Node],
     notes: &mut [Note],
     shelf: &mut Shelf,
-    names: &mut [Name; 512],
+    names: &mut [Name; SHELF_PLACES],
     memory: &mut M,
     inputs: &[Value],
     limit: usize,
