@@ -1,9 +1,8 @@
 -- Steps that are granted in pieces come to the same as all of them at once.
-use Rattle.std.proofs.Common.{◌≡◌, ℕ, ◌+◌, ◌-◌, ◌<◌, ◌≤◌, min, Bool, true, false, leb, ◌⊎◌, List, Ok, Err, sym, refl, ap, ◌∙◌, inl, inr, arith}
+use Rattle.std.proofs.Common.{◌≡◌, ℕ, ◌+◌, ◌-◌, ◌<◌, ◌≤◌, min, Bool, true, false, leb, ◌⊎◌, List, Ok, sym, refl, ap, ◌∙◌, inl, inr, arith}
 use Rattle.std.proofs.lemmas.Bool.{cases_Bool, le-leb}
 use Rattle.checker.specs.declared.node.Node.{Node}
 use Rattle.checker.specs.declared.note.Note.{Note}
-use Rattle.runner.specs.declared.refusal.GrantRefusal.{GrantRefusal}
 use Rattle.runner.specs.State.{State}
 use Rattle.runner.specs.Run.{ran, running, steps_taken}
 use Rattle.runner.specs.Calls.{grant_answer}

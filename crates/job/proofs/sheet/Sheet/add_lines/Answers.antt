@@ -4,7 +4,7 @@ use Rattle.job.specs.Lines.{cut}
 use Rattle.job.specs.Format.{later_line, later_lines, next_line}
 use Rattle.job.specs.Pieces.{further}
 use Rattle.job.specs.Meant.{meant}
-use Rattle.job.proofs.Sheets.{lines_on, went_on, went_wrong}
+use Rattle.job.proofs.Sheets.{lines_on, went_wrong}
 use Rattle.job.proofs.sheet.Sheet.add_lines.Goals as goal
 
 pub returns-in_err-add_next : goal.returns-in_err-add_next
@@ -15,13 +15,3 @@ returns-in_err-add_next c =
     rw (p.1, p.2) (sym (c.loop-first.invariant ∙ ap (λ r. later_lines s (line ∷ further 10 r)) c.in-Some.is
     ∙ lines_on line c.in-Some.rest.now s
     ∙ went_wrong (next_line s) (λ t. later_lines t (cut 10 c.in-Some.rest.now)) (later_line s line) _ c.in_err-add_next.ensures))
-
-pub loop-first-preserved : goal.loop-first-preserved
-loop-first-preserved c =
-    let line = c.loop-first.first.piece.now in
-    let s = meant c.loop-first.self in
-    let t = meant c.add_next.new.self in
-    c.loop-first.invariant ∙ ap (λ r. later_lines s (line ∷ further 10 r)) c.in-Some.is
-    ∙ lines_on line c.in-Some.rest.now s
-    ∙ went_on (next_line s) (λ t. later_lines t (cut 10 c.in-Some.rest.now)) (later_line s line) t c.in_ok-add_next.ensures
-    ∙ ap (later_lines t) c.cut_first-first-in-Some.ensures.pieces
