@@ -22,10 +22,6 @@ module _ (line rest : List ℕ) where
 
 -- a step that is taken alone decides where it leads with others after it
 module _ (n : ℕ) (after : SheetMeaning → Result SheetMeaning SheetRefusal) where
-  pub went_on : (x : Result SheetMeaning SheetQuestion) (t : SheetMeaning) → Ok t ≡ and_then n x (λ s. Ok s) → and_then n x after ≡ after t
-  went_on (Ok s) t e = let same : s ≡ t = cc in ap after same
-  went_on (Err question) t e = cc
-
   pub went_wrong : (x : Result SheetMeaning SheetQuestion) (f : SheetRefusal) → Err f ≡ and_then n x (λ s. Ok s) → and_then n x after ≡ Err f
   went_wrong (Ok s) f e = cc
   went_wrong (Err question) f e = sym e
