@@ -5,4 +5,4 @@ use Rattle.memories.proofs.bytes.CellBytesMemory.write.Goals as goal
 
 pub returns-then-is_type-clause-after : goal.returns-then-is_type-clause-after
 returns-then-is_type-clause-after c =
-    put_changed _ _ _ c.args.value _ _ c.put.ensures.says (omega arith) (typed_cell c.args.value (sym c.if-is_type.ensures)) c.put.ensures.bytes
+    put_changed _ _ c.args.cell c.args.value _ _ (grind (arith, c.put.ensures)) (omega arith) (typed_cell c.args.value (sym c.if-is_type.ensures)) (grind (arith, c.put.ensures))
