@@ -21,6 +21,8 @@ pub struct Machine {
     pub taken: usize,
     // so that a frame fits once one was taken off
     ghost fits: { length frames.items ≤ 1024 },
+    // so that hosts know how much they may have to take
+    ghost printed: { length output.items ≤ 4096 },
 }
 
 // By hand, since no default is derived where a ghost field stands.
@@ -43,8 +45,19 @@ impl Default for Machine {
 impl Machine {
     ghost use Rattle.numbers.specs.Shown.{shown};
     ghost use Rattle.runner.specs.Newest.{held, room};
-    ghost use Rattle.runner.specs.State.{core_of};
+    ghost use Rattle.runner.specs.State.{core_of, resting};
     ghost use Rattle.runner.specs.Rules.{Follows, flow_of, put, bottom};
+
+    // Back to where nothing is begun, printed or taken; places are kept, since to make them anew would cost more.
+    pub fn reset(&mut self)
+        ensures { core_of self.new ≡ resting }
+    {
+        self.frames.clear();
+        self.next = 0;
+        self.verdict = Verdict::Running;
+        self.output.clear();
+        self.taken = 0;
+    }
 
     // Does what a rule ends with; what is handed down then, unless the step is over.
     pub fn perform(&mut self, turn: Turn) -> ControlFlow<(), Signal>

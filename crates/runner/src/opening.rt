@@ -5,7 +5,6 @@ ghost use Rattle.runner.specs.Given.{given};
 ghost use Rattle.runner.specs.Calls.{asked, is_main, main_body, limit_fits, AtStart, Opened};
 
 use crate::lawful::{Inputs, accepted};
-use crate::machine::Course;
 use crate::refusal::OpenRefusal;
 use crate::session::{OpenedWith, Session};
 use checker::node::Node;
@@ -61,8 +60,10 @@ fn clear_below<M: Memory>(memory: &mut M, limit: usize)
 fn set_to_start(session: &mut Session, table: &[Node], inputs: Inputs, limit: usize)
     ensures { AtStart (record { script = table.now; inputs = given inputs; limit = limit }) session.new }
 {
-    session.course = Course::default();
+    session.course.machine.reset();
     session.course.machine.next = main_body(table);
+    session.course.steps = 0;
+    session.course.last = 0;
     session.opened = Some(OpenedWith { limit, inputs });
 }
 

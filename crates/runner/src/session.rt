@@ -1,8 +1,5 @@
 // A session: a script that was opened, and how far it has come.
-ghost use Rattle.std.specs.Prelude.{◌≡◌};
-ghost use Rattle.runner.specs.Books.{place_of};
-ghost use Rattle.runner.specs.Calls.{Fresh};
-ghost use Rattle.runner.specs.Written.{written};
+ghost use Rattle.std.specs.Prelude.{◌≡◌, ◌≤◌, length};
 
 use crate::lawful::Inputs;
 use crate::machine::Course;
@@ -14,6 +11,7 @@ pub(crate) struct OpenedWith {
     // the script has the cells below this one
     pub(crate) limit: usize,
     pub(crate) inputs: Inputs,
+    ghost few: { length inputs.items ≤ 64 },
 }
 
 #[derive(Debug, Default, Drop, Eq, PartialEq)]
@@ -24,6 +22,10 @@ pub struct Session {
 }
 
 impl Session {
+    ghost use Rattle.runner.specs.Books.{place_of};
+    ghost use Rattle.runner.specs.Calls.{Fresh};
+    ghost use Rattle.runner.specs.Written.{written};
+
     // A session that is not open.
     pub fn new() -> Session
         ensures { Fresh result }
