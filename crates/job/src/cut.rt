@@ -1,11 +1,7 @@
 // A text is cut at its marks, and a line into its letter and its numbers.
 ghost use Rattle.std.specs.Prelude.{◌≡◌, ◌+◌, ◌<◌, ◌==◌, ◌∷◌, length, position};
-ghost use Rattle.std.specs.Char.{is_ascii_digit};
-ghost use Rattle.std.specs.List.{list_all};
 ghost use Rattle.job.specs.Lines.{cut, number_of, numbers_of, fields_of};
 ghost use Rattle.job.specs.Pieces.{further, rest_length};
-
-use std::str;
 
 const MOST_DIGITS: usize = 13;
 
@@ -40,20 +36,22 @@ pub(crate) fn cut_first<'a>(bytes: &'a [u8], mark: u8) -> Cut<'a>
     }
 }
 
-fn all_digits(piece: &[u8]) -> bool
-    ensures { result ≡ list_all is_ascii_digit piece.now }
-{
-    piece.iter().all(|byte| byte.is_ascii_digit())
-}
-
 // The number of a piece that is 1 to 13 digits: so many fit a `u64`.
+// Not `parse`, which needs a `str` and takes a sign: a field is read in one pass.
 fn number(piece: &[u8]) -> Option<u64>
     ensures { result ≡ number_of piece.now }
 {
-    if piece.len() > MOST_DIGITS || !all_digits(piece) {
+    if piece.is_empty() || piece.len() > MOST_DIGITS {
         return None;
     }
-    str::from_utf8(piece).unwrap().parse().ok()
+    let mut value = 0;
+    for byte in piece {
+        if !byte.is_ascii_digit() {
+            return None;
+        }
+        value = value * 10 + u64::from(*byte - b'0');
+    }
+    Some(value)
 }
 
 // The numbers of the pieces that are left, where these are `N`.

@@ -1,19 +1,37 @@
-use Rattle.std.proofs.Common.{◌≤◌, length, sym, ◌∙◌, arith, rules}
-use Rattle.std.proofs.lemmas.Str.{IsUtf8-from_ascii}
-use Rattle.std.proofs.lemmas.Str.Parse.{parse_digits}
-use Rattle.job.proofs.Digits.{numerals, all_digits, digits_ascii, parsed}
+use Rattle.std.proofs.Common.{◌≤◌, length, get_or, refl, sym, arith}
+use Rattle.job.proofs.Digits.{fits, in_range, read_on, read_not, read_all, no_digits, many_digits}
 use Rattle.job.proofs.cut.number.Goals as goal
 
-pub unwrap-requires : goal.unwrap-requires
-unwrap-requires c =
-    let text = IsUtf8-from_ascii c.args.piece.now (digits_ascii c.args.piece.now (sym c.if-not-all_digits.ensures)) in
-    search rules
+pub returns-then-is_empty : goal.returns-then-is_empty
+returns-then-is_empty c = grind (arith, no_digits, many_digits)
+
+pub loop-byte-init : goal.loop-byte-init
+loop-byte-init c = record { small = omega arith; so = refl; digits = refl }
+
+pub loop-byte-preserved : goal.loop-byte-preserved
+loop-byte-preserved c =
+    read_on c.args.piece.now c.loop-byte.byte-index c.loop-byte.value c.from.result c.loop-byte-test.true
+    (sym c.if-not-is_ascii_digit.ensures.value) c.from.ensures c.loop-byte.invariant
+
+pub overflow_mul-value : goal.overflow_mul-value
+overflow_mul-value c =
+    let f = fits c.loop-byte.byte-index c.loop-byte.value 0 (omega arith) c.loop-byte.invariant.small (omega arith) in
+    omega arith
+
+pub overflow_add-value : goal.overflow_add-value
+overflow_add-value c =
+    let within = in_range (get_or c.args.piece.now c.loop-byte.byte-index 0) (sym c.if-not-is_ascii_digit.ensures.value) in
+    let high = within.1 in
+    let f = fits c.loop-byte.byte-index c.loop-byte.value c.from.result (omega arith) c.loop-byte.invariant.small (omega arith) in
+    omega arith
+
+pub returns-then-not-is_ascii_digit : goal.returns-then-not-is_ascii_digit
+returns-then-not-is_ascii_digit c =
+    read_not c.args.piece.now c.loop-byte.byte-index c.loop-byte.value c.loop-byte-test.true
+    (sym c.if-not-is_ascii_digit.ensures.value) c.loop-byte.invariant
 
 pub returns : goal.returns
 returns c =
-    let piece = c.args.piece.now in
-    let few : length piece ≤ 13 = omega arith in
-    let digits = sym c.if-not-all_digits.ensures in
-    let text = rw c.unwrap.ensures at c.from_utf8.ensures.cases in
-    let parses = rw text.0 at c.parse.ensures.value.0 in
-    c.ok.ensures.value ∙ parsed piece c.parse.result few digits (parse_digits numerals 64 piece c.parse.result parses (sym (all_digits piece) ∙ digits))
+    let some : 1 ≤ length c.args.piece.now = grind arith in
+    read_all c.args.piece.now c.loop-byte.byte-index c.loop-byte.value some
+    c.if-piece-gt-MOST_DIGITS.false c.loop-byte-test.false c.loop-byte.invariant
