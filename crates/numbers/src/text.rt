@@ -1,7 +1,5 @@
 // A short text, which lies in the value itself.
-ghost use Rattle.std.specs.Prelude.{◌≡◌, ◌<◌, ◌++◌};
-ghost use Rattle.arrayvec.specs.ArrayString.{array_string_len};
-ghost use Rattle.numbers.specs.Shown.{shown, ending_text};
+ghost use Rattle.std.specs.Prelude.{◌≤◌, length};
 
 use arrayvec::ArrayString;
 
@@ -15,9 +13,14 @@ pub enum Ending {
 #[derive(Clone, Copy, Debug, PartialEq, Eq)]
 pub struct Text {
     chars: ArrayString<16>,
+    ghost short: { length chars.bytes ≤ 16 },
 }
 
 impl Text {
+    ghost use Rattle.std.specs.Prelude.{◌≡◌, ◌<◌, ◌++◌};
+    ghost use Rattle.arrayvec.specs.ArrayString.{array_string_len};
+    ghost use Rattle.numbers.specs.Shown.{shown, ending_text};
+
     // The text of `chars`, with `ending` behind it.
     pub(crate) fn ended(mut chars: ArrayString<16>, ending: Ending) -> Text
         requires { array_string_len chars < 16 }
