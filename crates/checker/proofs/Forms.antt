@@ -1,5 +1,5 @@
 -- The questions about the whole table, node after node.
-use Rattle.std.proofs.Common.{◌≡◌, ℕ, zero, suc, ◌+◌, ◌-◌, ◌<◌, Bool, true, ◌&&◌, ltb, List, [], ◌∷◌, length, get_or, drop, Some, Ok, sym, refl, ◌∙◌, inl, inr, add-zero, arith}
+use Rattle.std.proofs.Common.{◌≡◌, ℕ, zero, suc, ◌+◌, ◌-◌, ◌<◌, ◌≤◌, Bool, true, ◌&&◌, ltb, List, [], ◌∷◌, length, get_or, drop, IfSome, Option, None, Some, Ok, sym, refl, ◌∙◌, inl, inr, add-zero, arith}
 use Rattle.std.proofs.lemmas.Bool.{lt-ltb, cond-true, cond-false, cases_Bool, and_parts}
 use Rattle.checker.specs.declared.node.Node.{Node}
 use Rattle.checker.specs.Tree.{node_at, tree, blank, Linked}
@@ -7,7 +7,7 @@ use Rattle.checker.specs.declared.refusal.Question.{Question}
 use Rattle.checker.specs.declared.refusal.Question.TheVariants.{NodeForm}
 use Rattle.checker.specs.Questions.{refuse}
 use Rattle.checker.specs.Chain.{link_fits}
-use Rattle.checker.specs.Form.{ask_from, ask_each, lowest_deep, links_fit, root_fits, shape_fits, shape_of, node_fits}
+use Rattle.checker.specs.Form.{ask_from, ask_each, lower, lowest_deep, links_fit, root_fits, shape_fits, shape_of, node_fits}
 use Rattle.checker.proofs.Trees.{Here, tree_here, link_up}
 
 -- a question asked of one node more
@@ -54,7 +54,17 @@ formed_linked t e n pos w =
       to_next = link_up t n (node_at t n).next l.3;
     }
 
+-- a node of a table of so many
+abbrev pub Among : ℕ → Option ℕ → Type 0
+Among m r = IfSome r (λ n. (0 < n) × (n ≤ m))
+
+-- the lower of two nodes of a table is one of them
+pub lower_within : (x y : Option ℕ) (m : ℕ) → Among m x → Among m y → Among m (lower x y)
+lower_within None y m h k = k
+lower_within (Some x) None m h k = h
+lower_within (Some x) (Some y) m h k = (omega (arith, h, k), omega (arith, h, k))
+
 -- a node that is too deep is the lowest below itself
-pub deep_here : {t : List Node} {n depth : ℕ} {d : Node} → Linked t → Here t n d → 200 < depth → Some (n, d) ≡ lowest_deep depth (tree t n)
+pub deep_here : {t : List Node} {n depth : ℕ} {d : Node} → Linked t → Here t n d → 200 < depth → Some n ≡ lowest_deep depth (tree t n)
 deep_here {t} {n} {depth} linked here deep =
     let e : ltb 200 depth ≡ true = lt-ltb _ _ deep in rw (tree_here linked here, e) refl

@@ -1,5 +1,5 @@
 -- The form of a table: questions about every node, whether or not it is reached.
-use Rattle.std.specs.Prelude.{ℕ, ◌+◌, Bool, true, false, cond, not, ◌&&◌, ◌||◌, List, [], ◌∷◌, length, Some, None, Ok, Option, Result, ◌==◌, nat_le, nat_lt}
+use Rattle.std.specs.Prelude.{ℕ, ◌+◌, min, Bool, true, false, cond, not, ◌&&◌, ◌||◌, List, [], ◌∷◌, length, Some, None, Ok, Option, Result, ◌==◌, nat_le, nat_lt}
 use Rattle.std.specs.List.{list_all}
 use Rattle.checker.specs.declared.node.Node.{Node}
 use Rattle.checker.specs.declared.refusal.Refusal.{Refusal}
@@ -13,7 +13,7 @@ use Rattle.checker.specs.declared.shape.Content.{Content}
 use Rattle.checker.specs.declared.shape.Content.TheVariants.{Nothing, MainName, CalledName, IntLiteral}
 use Rattle.checker.specs.declared.shape.Shape.{Shape}
 use Rattle.checker.specs.Questions.{refuse, then}
-use Rattle.checker.specs.Tree.{Tree, none, at, tree, item_at}
+use Rattle.checker.specs.Tree.{Tree, none, at, tree, node_at, item_at}
 use Rattle.checker.specs.Chain.{link_fits, chain}
 
 -- which kinds are of a class: statements are 10 to 12 and 14 to 18, expressions 20 to 41
@@ -105,22 +105,22 @@ times_linked (d ∷ ds) n = hit n d.a + hit n d.b + hit n d.c + hit n d.next + t
 abbrev pub linked_once : List Node → ℕ → Node → Bool
 linked_once t n d = n == 1 || times_linked t n == 1
 
--- the lower of two nodes, each with its number
-abbrev pub lower : Option (ℕ × Node) → Option (ℕ × Node) → Option (ℕ × Node)
+-- the lower of two node numbers
+abbrev pub lower : Option ℕ → Option ℕ → Option ℕ
 lower None y = y
 lower (Some x) None = Some x
-lower (Some x) (Some y) = cond (nat_lt y.0 x.0) (Some y) (Some x)
+lower (Some x) (Some y) = Some (min x y)
 
 -- the lowest node that is more than 200 deep: children are a level deeper, a chain is equally deep
-abbrev pub lowest_deep : ℕ → Tree → Option (ℕ × Node)
+abbrev pub lowest_deep : ℕ → Tree → Option ℕ
 lowest_deep depth none = None
 lowest_deep depth (at n d a b c next) =
-    cond (nat_lt 200 depth) (Some (n, d))
+    cond (nat_lt 200 depth) (Some n)
     (lower (lower (lowest_deep (depth + 1) a) (lower (lowest_deep (depth + 1) b) (lowest_deep (depth + 1) c))) (lowest_deep depth next))
 
-abbrev pub shallow : Option (ℕ × Node) → Result (Unit {0}) Refusal
-shallow None = Ok tt
-shallow (Some p) = refuse Depth p.0 p.1.line
+abbrev pub shallow : List Node → Option ℕ → Result (Unit {0}) Refusal
+shallow t None = Ok tt
+shallow t (Some n) = refuse Depth n (node_at t n).line
 
 -- 1 to 4,096 nodes, and a place for each note
 abbrev pub sized : ℕ → ℕ → Bool
@@ -134,4 +134,4 @@ ask_size len places = cond (sized len places) (Ok tt) (refuse TableSize 0 0)
 abbrev pub formed : List Node → Result (Unit {0}) Refusal
 formed t =
     then (ask_each (node_fits t) NodeForm t)
-    (λ _. then (ask_each (linked_once t) LinkedOnce t) (λ _. shallow (lowest_deep 1 (tree t 1))))
+    (λ _. then (ask_each (linked_once t) LinkedOnce t) (λ _. shallow t (lowest_deep 1 (tree t 1))))

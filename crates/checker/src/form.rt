@@ -1,6 +1,6 @@
 // The questions about the whole table: its size, the form of each node, that
 // each is linked once, and that none is too deep.
-ghost use Rattle.std.specs.Prelude.{◌≡◌, ◌≤◌, ℕ, Bool, Ok, Err, IfOk, MatchResult};
+ghost use Rattle.std.specs.Prelude.{◌≡◌, ◌<◌, ◌≤◌, ℕ, Bool, length, Ok, Err, IfOk, IfSome, MatchResult};
 ghost use Rattle.checker.specs.declared.node.Node.{Node};
 ghost use Rattle.checker.specs.Tree.{blank, tree};
 ghost use Rattle.checker.specs.Form.{chain_fits, one_fits, child_fits, shape_fits, node_fits, ask_each, hit, times_linked, linked_once, lower, lowest_deep, shallow, ask_size, formed};
@@ -125,26 +125,28 @@ fn ask_links(table: Table) -> Result<(), Refusal>
     })
 }
 
-// The lower of two nodes, each with its number.
-fn lower_of(x: Option<(u16, Node)>, y: Option<(u16, Node)>) -> Option<(u16, Node)>
+// The lower of two nodes, each by its number.
+fn lower_of(x: Option<u16>, y: Option<u16>) -> Option<u16>
     ensures { result ≡ lower x y }
 {
     match (x, y) {
-        (Some(x), Some(y)) if y.0 < x.0 => Some(y),
-        (Some(x), _) => Some(x),
+        (Some(x), Some(y)) => Some(x.min(y)),
+        (Some(x), None) => Some(x),
         (None, y) => y,
     }
 }
 
-// The lowest node from this link on that is too deep.
-fn lowest_deep(script: Script, link: u16, depth: u8) -> Option<(u16, Node)>
+// The number of the lowest node from this link on that is too deep. It calls
+// itself along a chain too, so it answers no node.
+fn lowest_deep(script: Script, link: u16, depth: u8) -> Option<u16>
     requires level { depth ≤ 201 }
-    ensures { result ≡ lowest_deep depth (tree script.entry.nodes.now link) }
+    ensures value { result ≡ lowest_deep depth (tree script.entry.nodes.now link) }
+    ensures within { IfSome result (λ n. (0 < n) × (n ≤ length script.entry.nodes.now)) }
 {
     let node = item_at(script.nodes, link)?;
     let too_deep = depth > DEEPEST;
     if too_deep {
-        return Some((link, node));
+        return Some(link);
     }
     let a = lowest_deep(script, node.a, depth + 1);
     let b = lowest_deep(script, node.b, depth + 1);
@@ -154,11 +156,14 @@ fn lowest_deep(script: Script, link: u16, depth: u8) -> Option<(u16, Node)>
 }
 
 fn ask_depth(script: Script) -> Result<(), Refusal>
-    ensures { result ≡ shallow (lowest_deep 1 (tree script.entry.nodes.now 1)) }
+    ensures { result ≡ shallow script.entry.nodes.now (lowest_deep 1 (tree script.entry.nodes.now 1)) }
 {
     match lowest_deep(script, 1, 1) {
         None => Ok(()),
-        Some((number, node)) => Err(Refusal::new(Question::Depth, number, node.line)),
+        Some(number) => {
+            let line = script.nodes[number as usize - 1].line;
+            Err(Refusal::new(Question::Depth, number, line))
+        }
     }
 }
 
