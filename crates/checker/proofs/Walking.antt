@@ -1,5 +1,6 @@
 -- What each way through the statements and declarations answers, over plain values.
 use Rattle.std.proofs.Common.{◌≡◌, ℕ, ◌+◌, ◌<◌, ◌≤◌, List, ◌∷◌, length, drop, set, None, Ok, Err, Result, refl, ap, ◌∙◌, add-one, arith}
+use Rattle.std.proofs.lemmas.Bool.{false≢true}
 use Rattle.checker.specs.declared.node.Node.{Node}
 use Rattle.checker.specs.declared.note.Note.{Note}
 use Rattle.checker.specs.declared.refusal.Refusal.{Refusal}
@@ -64,6 +65,7 @@ Whole t names count n d notes = function (newest_first names count) n d (tree t 
 pub record Coming (t : List Node) (first : ℕ) (names : List Name) (count : ℕ) (notes : List Note) (t' : List Node) (now : ℕ) (names' : List Name) (count' : ℕ) (notes' : List Note) : Type 0 where
   pub table : t' ≡ t
   pub long : length names' ≡ 512
+  pub room : count ≤ 512 → count' ≤ 512
   pub beyond : drop (length t) notes' ≡ drop (length t) notes
   pub rest : declarations (newest_first names count) (tree t first) notes ≡ declarations (newest_first names' count') (tree t now) notes'
 
@@ -71,22 +73,23 @@ module _ {t : List Node} {first : ℕ} {names : List Name} {count : ℕ} {notes 
   at_function : declarations (newest_first names count) (tree t first) notes ≡ then (Whole t names₁ count₁ n d notes₁) (λ (p : List Name × List Note). declarations p.0 (tree t d.next) p.1)
   at_function = coming.rest ∙ rw (came.at, tree_here linked came.here) refl
 
-  pub declarations_refused : {names₂ : List Name} {count₂ : ℕ} {notes₂ : List Note} {r : Result (Unit {0}) Refusal} {f : Refusal} → Declares t (Whole t names₁ count₁ n d notes₁) notes₁ (Err f) names₂ count₂ notes₂ → r ≡ Err f → Declares t (declarations (newest_first names count) (tree t first) notes) notes r names₂ count₂ notes₂
+  pub declarations_refused : {names₂ : List Name} {count₂ : ℕ} {notes₂ : List Note} {r : Result (Unit {0}) Refusal} {f : Refusal} → Declares t (Whole t names₁ count₁ n d notes₁) count₁ notes₁ (Err f) names₂ count₂ notes₂ → r ≡ Err f → Declares t (declarations (newest_first names count) (tree t first) notes) count notes r names₂ count₂ notes₂
   declarations_refused h e =
-      rw e (record { result = at_function ∙ rw h.result refl; beyond = h.beyond ∙ coming.beyond })
+      rw e (record { result = at_function ∙ rw h.result refl; beyond = h.beyond ∙ coming.beyond; room = λ _ x. absurd (false≢true x) })
 
-  pub declarations_on : {names₂ : List Name} {count₂ : ℕ} {notes₂ : List Note} {u : Unit {0}} → Declares t (Whole t names₁ count₁ n d notes₁) notes₁ (Ok u) names₂ count₂ notes₂ → length names₂ ≡ 512 → Coming t first names count notes t' n' names₂ count₂ notes₂
+  pub declarations_on : {names₂ : List Name} {count₂ : ℕ} {notes₂ : List Note} {u : Unit {0}} → Declares t (Whole t names₁ count₁ n d notes₁) count₁ notes₁ (Ok u) names₂ count₂ notes₂ → length names₂ ≡ 512 → Coming t first names count notes t' n' names₂ count₂ notes₂
   declarations_on h long =
       record {
         table = came.table;
         long = long;
+        room = λ x. h.room (coming.room x) refl;
         beyond = h.beyond ∙ coming.beyond;
         rest = at_function ∙ rw (h.result, came.on) refl;
       }
 
-pub declarations_done : {t : List Node} {first : ℕ} {names : List Name} {count : ℕ} {notes : List Note} {n : ℕ} {names₁ : List Name} {count₁ : ℕ} {notes₁ : List Note} {t' : List Node} → Coming t first names count notes t' n names₁ count₁ notes₁ → item_at t n ≡ None → Declares t (declarations (newest_first names count) (tree t first) notes) notes (Ok tt) names₁ count₁ notes₁
+pub declarations_done : {t : List Node} {first : ℕ} {names : List Name} {count : ℕ} {notes : List Note} {n : ℕ} {names₁ : List Name} {count₁ : ℕ} {notes₁ : List Note} {t' : List Node} → Coming t first names count notes t' n names₁ count₁ notes₁ → item_at t n ≡ None → Declares t (declarations (newest_first names count) (tree t first) notes) count notes (Ok tt) names₁ count₁ notes₁
 declarations_done {t} {first} {names} {count} {notes} {n} coming z =
-    record { result = coming.rest ∙ rw (tree_out t n z) refl; beyond = coming.beyond }
+    record { result = coming.rest ∙ rw (tree_out t n z) refl; beyond = coming.beyond; room = λ x _. coming.room x }
 
 -- an empty expression statement
 pub empty_statement : {t : List Node} (names : List Name) (count n : ℕ) (d : Node) {notes : List Note} → d.kind ≡ 18 → d.a ≡ 0 → Walks t (One t names count n d notes) count notes (Ok tt) count notes

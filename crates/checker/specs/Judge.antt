@@ -80,10 +80,12 @@ abbrev pub leaves_names : Result (Unit {0}) Refusal → List Name → List Note 
 leaves_names (Ok u) scope notes = Ok (scope, notes)
 leaves_names (Err e) scope notes = Err e
 
--- A call that was to come to out answered r, with these names in scope and these notes after it.
-pub record Declares (t : List Node) (out : Out (List Name)) (notes : List Note) (r : Result (Unit {0}) Refusal) (names : List Name) (count : ℕ) (notes' : List Note) : Type 0 where
+-- A call that was to come to out answered r, with these names in scope and these notes after it. The shelf has room for
+-- them, where it had room for those before.
+pub record Declares (t : List Node) (out : Out (List Name)) (before : ℕ) (notes : List Note) (r : Result (Unit {0}) Refusal) (names : List Name) (count : ℕ) (notes' : List Note) : Type 0 where
   pub result : out ≡ leaves_names r (newest_first names count) notes'
   pub beyond : drop (length t) notes' ≡ drop (length t) notes
+  pub room : before ≤ 512 → is_ok r ≡ true → count ≤ 512
 
 abbrev pub leaves_scope : Result (Unit {0}) Refusal → List Name → Result (List Name) Refusal
 leaves_scope (Ok u) scope = Ok scope

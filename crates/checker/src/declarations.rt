@@ -62,7 +62,7 @@ fn walk_function(
     notes: &mut [Note],
 ) -> Result<(), Refusal>
     requires { length place.script.nodes.now ≤ length notes.old }
-    ensures { Declares place.entry.script.nodes.now (function (newest_first names.old shelf.old.count) place.entry.number place.entry.node (tree place.entry.script.nodes.now place.entry.node.b) notes.old) notes.old result names.new shelf.new.count notes.new }
+    ensures { Declares place.entry.script.nodes.now (function (newest_first names.old shelf.old.count) place.entry.number place.entry.node (tree place.entry.script.nodes.now place.entry.node.b) notes.old) shelf.old.count notes.old result names.new shelf.new.count notes.new }
 {
     enter_function(place, shelf, names)?;
     let old = shelf.count;
@@ -79,7 +79,7 @@ fn walk_declarations(
     notes: &mut [Note],
 ) -> Result<(), Refusal>
     requires { length script.nodes.now ≤ length notes.old }
-    ensures { Declares script.entry.nodes.now (declarations (newest_first names.old shelf.old.count) (tree script.entry.nodes.now first) notes.old) notes.old result names.new shelf.new.count notes.new }
+    ensures { Declares script.entry.nodes.now (declarations (newest_first names.old shelf.old.count) (tree script.entry.nodes.now first) notes.old) shelf.old.count notes.old result names.new shelf.new.count notes.new }
 {
     for (number, node) in script.chain(first) {
         let place = Place {
