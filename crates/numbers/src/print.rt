@@ -1,6 +1,6 @@
 // The text of a value.
 // By `push_str`, which cannot fail where there is room; `write!` answers a result that may be an error.
-ghost use Rattle.std.specs.Prelude.{◌≡◌, ◌^◌, ◌<◌, ◌≤◌, ◌+◌, ◌%◌, ◌++◌, ◌∷◌, [], length};
+ghost use Rattle.std.specs.Prelude.{◌≡◌, ◌^◌, ◌<◌, ◌≤◌, ◌+◌, ◌%◌, ◌++◌, ◌∷◌, []};
 ghost use Rattle.arrayvec.specs.ArrayString.{array_string_len};
 ghost use Rattle.numbers.specs.Printed.{int_text, boolean_text, float_text, minus, rounded};
 ghost use Rattle.numbers.specs.Shown.{shown, ending_text};
@@ -48,7 +48,7 @@ pub fn print_float(word: u32, ending: Ending) -> Text
     if size > 0x7F80_0000 {
         chars.push_str("nan");
     } else if size >= 0x4F00_0000 {
-        chars.push_str(sign(negative));
+        push_sign(&mut chars, negative);
         chars.push_str("over");
     } else {
         push_thousandths(&mut chars, negative, thousandths(word));
@@ -63,7 +63,7 @@ fn push_thousandths(chars: &mut ArrayString<16>, negative: bool, n: u64)
     ensures text { chars.new.bytes ≡ rounded negative n }
     ensures room { array_string_len chars.new ≤ 15 }
 {
-    chars.push_str(sign(negative && n > 0));
+    push_sign(chars, negative && n > 0);
     let mut digits = Buffer::new();
     chars.push_str(digits.format(n / 1000));
     chars.push_str(".");
@@ -81,9 +81,13 @@ fn push_digit(chars: &mut ArrayString<16>, n: u64)
     chars.push(char::from(b'0' + (n % 10) as u8));
 }
 
-fn sign(negative: bool) -> &'static str
-    ensures text { result.now ≡ minus negative }
-    ensures short { length result.now ≤ 1 }
+// Writes a minus if `negative`.
+fn push_sign(chars: &mut ArrayString<16>, negative: bool)
+    requires { array_string_len chars.old < 16 }
+    ensures text { chars.new.bytes ≡ chars.old.bytes ++ minus negative }
+    ensures room { array_string_len chars.new ≤ array_string_len chars.old + 1 }
 {
-    if negative { "-" } else { "" }
+    if negative {
+        chars.push('-');
+    }
 }
