@@ -34,4 +34,4 @@ pub returns : goal.returns
 returns c =
     let some : 1 ≤ length c.args.piece.now = grind arith in
     read_all c.args.piece.now c.loop-byte.byte-index c.loop-byte.value some
-    c.if-piece-gt-MOST_DIGITS.false c.loop-byte-test.false c.loop-byte.invariant
+    (omega arith) c.loop-byte-test.false c.loop-byte.invariant
